@@ -1,0 +1,409 @@
+-- The nodes of the layers: their soft values, their decided prefixes, and how these grow bit by bit.
+use mathlib.Core.Path.{_≡_, refl, sym, ap, ap₂, subst, _∙_}
+use mathlib.Core.Bool.{Bool, true, false, not, cond}
+use mathlib.Core.List.{List, [], _∷_, _++_, append-nil, append-assoc}
+use Prim.Native.Nat.{ℕ, zero, suc, _+_, _-_, _*_, _/_, _%_, _^_, _<_, _≤_, min}
+use native.Mathlib.Omega.{arith}
+use native.Mathlib.Nat.{zero-add, div-one, div-div-eq-div-mul, pow-suc}
+use lib.ListN.{length, length-append}
+use lib.IntN.{ℤ, pos, negsuc}
+use lib.Pow.{pow-pos}
+use lib.Dec.{T, ltb, ltb→lt, lt→ltb, nltb→le}
+use lib.Arith.{le→nltb}
+use Rattle.spec.specs.Bits.{_⊕_, flip, Bits, nil, cons}
+use Rattle.spec.specs.Transform.{inputA, inputB, evens, odds}
+use Rattle.laws.specs.Cost.{last}
+use Rattle.laws.specs.Layer.{Odd, odd-snoc², inputA-snoc², inputB-snoc², last-snoc, half, length-inputA, length-inputB, length-odd}
+
+-- ---- bits
+pub flip-lt : (a : ℕ) → flip a < 2
+flip-lt zero = omega arith
+flip-lt (suc a) = omega arith
+
+pub ⊕-lt : (a b : ℕ) → a < 2 → (a ⊕ b) < 2
+⊕-lt a zero h = h
+⊕-lt a (suc b) h = flip-lt a
+
+flip-flip : (a : ℕ) → a < 2 → flip (flip a) ≡ a
+flip-flip zero h = refl
+flip-flip (suc zero) h = refl
+flip-flip (suc (suc a)) h = absurd (omega arith)
+
+pub ⊕-assoc : (a o b : ℕ) → a < 2 → (a ⊕ o) ⊕ b ≡ a ⊕ (o ⊕ b)
+⊕-assoc a o zero h = refl
+⊕-assoc a zero (suc b) h = refl
+⊕-assoc a (suc o) (suc b) h = flip-flip a h
+
+pub bits-snoc : {v : List ℕ} (x : ℕ) → Bits v → x < 2 → Bits (v ++ x ∷ [])
+bits-snoc x nil h = cons h nil
+bits-snoc x (cons a p) h = cons a (bits-snoc x p h)
+
+pub bits-last : {v : List ℕ} → Bits v → last v < 2
+bits-last nil = omega arith
+bits-last (cons a nil) = a
+bits-last (cons a (cons b p)) = bits-last (cons b p)
+
+pub bits-inputA : {v : List ℕ} → Bits v → Bits (inputA v)
+bits-inputA nil = nil
+bits-inputA (cons a nil) = nil
+bits-inputA (cons {x = x} a (cons {x = y} b nil)) = cons (⊕-lt x y a) nil
+bits-inputA (cons {x = x} a (cons {x = y} b (cons {x = z} c p))) = cons (⊕-lt x (y ⊕ z) a) (bits-inputA (cons c p))
+
+pub bits-inputB : {v : List ℕ} → Bits v → Bits (inputB v)
+bits-inputB nil = nil
+bits-inputB (cons a nil) = nil
+bits-inputB (cons a (cons b nil)) = cons b nil
+bits-inputB (cons a (cons {x = y} b (cons {x = z} c p))) = cons (⊕-lt y z b) (bits-inputB (cons c p))
+
+-- ---- a prefix, cut to its largest odd length
+abbrev pub cut : List ℕ → List ℕ
+cut [] = []
+cut (x ∷ []) = x ∷ []
+cut (x ∷ y ∷ []) = x ∷ []
+cut (x ∷ y ∷ z ∷ r) = x ∷ y ∷ cut (z ∷ r)
+
+pub bits-cut : {v : List ℕ} → Bits v → Bits (cut v)
+bits-cut nil = nil
+bits-cut (cons a nil) = cons a nil
+bits-cut (cons a (cons b nil)) = cons a nil
+bits-cut (cons a (cons b (cons c p))) = cons a (cons b (bits-cut (cons c p)))
+
+-- ---- what a phase is: 0, odd, or even and at least 2
+pub data Kind : Type 0 where
+  none odd even : Kind
+
+abbrev pub kind : ℕ → Kind
+kind zero = none
+kind (suc zero) = odd
+kind (suc (suc zero)) = even
+kind (suc (suc (suc n))) = kind (suc n)
+
+pub data Shape : Kind → List ℕ → Type 0 where
+  s-none : Shape none []
+  s-odd : (v : List ℕ) → Odd v → Shape odd v
+  s-even : (v : List ℕ) (o : ℕ) → Odd v → Shape even (v ++ o ∷ [])
+
+-- two bits in front change nothing
+more : {k : Kind} {w : List ℕ} (x y : ℕ) → Shape k w → 0 < length w → Shape k (x ∷ y ∷ w)
+more x y s-none h = absurd (omega arith)
+more x y (s-odd v p) h = s-odd (x ∷ y ∷ v) p
+more x y (s-even v o p) h = s-even (x ∷ y ∷ v) o p
+
+pub shape : (v : List ℕ) → Shape (kind (length v)) v
+shape [] = s-none
+shape (x ∷ []) = s-odd (x ∷ []) tt
+shape (x ∷ y ∷ []) = s-even (x ∷ []) y tt
+shape (x ∷ y ∷ z ∷ r) = more x y (shape (z ∷ r)) (omega arith)
+
+pub cut-odd : (v : List ℕ) → Odd v → cut v ≡ v
+cut-odd [] o = absurd o
+cut-odd (x ∷ []) o = refl
+cut-odd (x ∷ y ∷ []) o = absurd o
+cut-odd (x ∷ y ∷ z ∷ r) o = ap (λ (l : List ℕ). x ∷ y ∷ l) (cut-odd (z ∷ r) o)
+
+pub cut-even : (v : List ℕ) (b : ℕ) → Odd v → cut (v ++ b ∷ []) ≡ v
+cut-even [] b o = absurd o
+cut-even (x ∷ []) b o = refl
+cut-even (x ∷ y ∷ []) b o = absurd o
+cut-even (x ∷ y ∷ z ∷ r) b o = ap (λ (l : List ℕ). x ∷ y ∷ l) (cut-even (z ∷ r) b o)
+
+-- ---- the children's prefixes
+abbrev pub kidA : List ℕ → List ℕ
+kidA v = inputA (cut v)
+
+abbrev pub kidB : List ℕ → List ℕ
+kidB v = inputB (cut v)
+
+-- one more bit at an empty or an odd prefix: the children stay
+pub kidA-odd : (v : List ℕ) (b : ℕ) → Odd v → kidA (v ++ b ∷ []) ≡ kidA v
+kidA-odd v b o = ap inputA (cut-even v b o ∙ sym (cut-odd v o))
+
+pub kidB-odd : (v : List ℕ) (b : ℕ) → Odd v → kidB (v ++ b ∷ []) ≡ kidB v
+kidB-odd v b o = ap inputB (cut-even v b o ∙ sym (cut-odd v o))
+
+-- at an even prefix v ++ [o] each child gets one bit
+pub kidA-even : (v : List ℕ) (o b : ℕ) → Odd v → last v < 2 → kidA (v ++ o ∷ [] ++ b ∷ []) ≡ kidA (v ++ o ∷ []) ++ ((last v ⊕ o) ⊕ b) ∷ []
+kidA-even v o b p h =
+    ap inputA (cut-odd (v ++ o ∷ [] ++ b ∷ []) (odd-snoc² v o b p)) ∙ inputA-snoc² v o b p
+    ∙ ap₂ (λ (l : List ℕ) (x : ℕ). inputA l ++ x ∷ []) (sym (cut-even v o p)) (sym (⊕-assoc (last v) o b h))
+
+pub kidB-even : (v : List ℕ) (o b : ℕ) → Odd v → kidB (v ++ o ∷ [] ++ b ∷ []) ≡ kidB (v ++ o ∷ []) ++ (o ⊕ b) ∷ []
+kidB-even v o b p =
+    ap inputB (cut-odd (v ++ o ∷ [] ++ b ∷ []) (odd-snoc² v o b p)) ∙ inputB-snoc² v o b p
+    ∙ ap (λ (l : List ℕ). inputB l ++ (o ⊕ b) ∷ []) (sym (cut-even v o p))
+
+-- one more bit, over a parent whose kind is k
+abbrev pub isEven : Kind → Bool
+isEven none = false
+isEven odd = false
+isEven even = true
+
+abbrev pub P : List ℕ → ℕ
+P v = last (cut v) ⊕ last v
+
+abbrev pub Q : List ℕ → ℕ
+Q v = last v
+
+kidA-shape : {k : Kind} {v : List ℕ} (b p : ℕ) → Shape k v → Bits v → (k ≡ even → p ≡ P v)
+    → kidA (v ++ b ∷ []) ≡ cond (isEven k) (kidA v ++ (p ⊕ b) ∷ []) (kidA v)
+kidA-shape b p s-none t e = refl
+kidA-shape b p (s-odd v o) t e = kidA-odd v b o
+kidA-shape b p (s-even v x o) t e =
+    let cv : cut (v ++ x ∷ []) ≡ v = cut-even v x o in
+    let h : last v < 2 = subst (λ (l : List ℕ). last l < 2) cv (bits-last (bits-cut t)) in
+    let ep : p ≡ last v ⊕ x = e refl ∙ ap₂ _⊕_ (ap last cv) (last-snoc v x) in
+    rw ep (kidA-even v x b o h)
+
+kidB-shape : {k : Kind} {v : List ℕ} (b q : ℕ) → Shape k v → (k ≡ even → q ≡ Q v)
+    → kidB (v ++ b ∷ []) ≡ cond (isEven k) (kidB v ++ (q ⊕ b) ∷ []) (kidB v)
+kidB-shape b q s-none e = refl
+kidB-shape b q (s-odd v o) e = kidB-odd v b o
+kidB-shape b q (s-even v x o) e =
+    let eq : q ≡ x = e refl ∙ last-snoc v x in
+    rw eq (kidB-even v x b o)
+
+pub kidA-step : (v : List ℕ) (b p : ℕ) → Bits v → (kind (length v) ≡ even → p ≡ P v)
+    → kidA (v ++ b ∷ []) ≡ cond (isEven (kind (length v))) (kidA v ++ (p ⊕ b) ∷ []) (kidA v)
+kidA-step v b p t e = kidA-shape b p (shape v) t e
+
+pub kidB-step : (v : List ℕ) (b q : ℕ) → (kind (length v) ≡ even → q ≡ Q v)
+    → kidB (v ++ b ∷ []) ≡ cond (isEven (kind (length v))) (kidB v ++ (q ⊕ b) ∷ []) (kidB v)
+kidB-step v b q e = kidB-shape b q (shape v) e
+
+-- ---- phases
+abbrev pub down : ℕ → ℕ
+down zero = zero
+down (suc n) = half n
+
+pub half-is : (n : ℕ) → half n ≡ n / 2
+half-is zero = refl
+half-is (suc zero) = refl
+half-is (suc (suc n)) = omega (arith, half-is n)
+
+pub down-is : (n : ℕ) → down n ≡ (n - 1) / 2
+down-is zero = refl
+down-is (suc n) = half-is n ∙ (omega arith)
+
+half-cut : (v : List ℕ) → half (length (cut v)) ≡ down (length v)
+half-cut [] = refl
+half-cut (x ∷ []) = refl
+half-cut (x ∷ y ∷ []) = refl
+half-cut (x ∷ y ∷ z ∷ r) = ap suc (half-cut (z ∷ r))
+
+pub length-kidA : (v : List ℕ) → length (kidA v) ≡ down (length v)
+length-kidA v = length-inputA (cut v) ∙ half-cut v
+
+pub length-kidB : (v : List ℕ) → length (kidB v) ≡ down (length v)
+length-kidB v = length-inputB (cut v) ∙ half-cut v
+
+-- the phase of the layer d below the top, from the top's
+abbrev pub phase : ℕ → ℕ → ℕ
+phase zero n = n
+phase (suc d) n = down (phase d n)
+
+-- whether the layer's prefixes grow as the top's goes from n bits to n + 1
+abbrev pub moves : ℕ → ℕ → Bool
+moves zero n = true
+moves (suc d) n = cond (moves d n) (isEven (kind (phase d n))) false
+
+down-suc : (n : ℕ) → down (suc n) ≡ cond (isEven (kind n)) (suc (down n)) (down n)
+down-suc zero = refl
+down-suc (suc zero) = refl
+down-suc (suc (suc zero)) = refl
+down-suc (suc (suc (suc n))) = ap suc (down-suc (suc n)) ∙ push (isEven (kind (suc n)))
+  where
+    push : (c : Bool) → suc (cond c (suc (half n)) (half n)) ≡ cond c (suc (suc (half n))) (suc (half n))
+    push true = refl
+    push false = refl
+
+pub phase-suc : (d n : ℕ) → phase d (suc n) ≡ cond (moves d n) (suc (phase d n)) (phase d n)
+phase-suc zero n = refl
+phase-suc (suc d) n = ap down (phase-suc d n) ∙ go (moves d n)
+  where
+    go : (c : Bool) → down (cond c (suc (phase d n)) (phase d n)) ≡ cond (cond c (isEven (kind (phase d n))) false) (suc (down (phase d n))) (down (phase d n))
+    go true = down-suc (phase d n)
+    go false = refl
+
+is-true : (b : Bool) → T b → b ≡ true
+is-true true t = refl
+is-true false t = absurd t
+
+is-false : (b : Bool) → T (not b) → b ≡ false
+is-false true t = absurd t
+is-false false t = refl
+
+-- ---- the nodes: node i of the layer d below the top has the children i and i + 2 ^ d on the layer below it
+module _ {A : Type 0} (f g : A → A) where
+  unfoldable pub node : ℕ → A → ℕ → A
+  node zero a i = a
+  node (suc d) a i = cond (ltb i (2 ^ d)) (f (node d a i)) (g (node d a (i - 2 ^ d)))
+
+  pub node-even : (d : ℕ) (a : A) (i : ℕ) → i < 2 ^ d → node (suc d) a i ≡ f (node d a i)
+  unfolding node
+  node-even d a i h = ap (λ (c : Bool). cond c (f (node d a i)) (g (node d a (i - 2 ^ d)))) (is-true (ltb i (2 ^ d)) (lt→ltb i (2 ^ d) h))
+
+  pub node-odd : (d : ℕ) (a : A) (i : ℕ) → node (suc d) a (i + 2 ^ d) ≡ g (node d a i)
+  unfolding node
+  node-odd d a i =
+      let e : i + 2 ^ d - 2 ^ d ≡ i = omega arith in
+      ap (λ (c : Bool). cond c (f (node d a (i + 2 ^ d))) (g (node d a (i + 2 ^ d - 2 ^ d)))) (is-false (ltb (i + 2 ^ d) (2 ^ d)) (le→nltb (i + 2 ^ d) (2 ^ d) (omega arith)))
+      ∙ ap (λ (j : ℕ). g (node d a j)) e
+
+-- a node of the layer below is one or the other
+pub by-child : (Z : ℕ → Type 0) (d : ℕ) → ((j : ℕ) → j < 2 ^ d → Z j) → ((j : ℕ) → j < 2 ^ d → Z (j + 2 ^ d)) → (i : ℕ) → i < 2 ^ suc d → Z i
+by-child Z d p q i h = go (ltb i (2 ^ d)) refl
+  where
+    go : (c : Bool) → ltb i (2 ^ d) ≡ c → Z i
+    go true e = p i (ltb→lt i (2 ^ d) (subst T (sym e) tt))
+    go false e =
+        let l : 2 ^ d ≤ i = nltb→le i (2 ^ d) (subst (λ (b : Bool). T (not b)) (sym e) tt) in
+        let b : i - 2 ^ d + 2 ^ d ≡ i = omega arith in
+        subst Z b (q (i - 2 ^ d) (omega arith))
+
+abbrev pub soft : ℕ → List ℤ → ℕ → List ℤ
+soft = node evens odds
+
+abbrev pub pre : ℕ → List ℕ → ℕ → List ℕ
+pre = node kidA kidB
+
+pub length-pre : (d : ℕ) (w : List ℕ) (i : ℕ) → i < 2 ^ d → length (pre d w i) ≡ phase d (length w)
+unfolding node
+length-pre zero w i h = refl
+length-pre (suc d) w i h = by-child (λ i. length (pre (suc d) w i) ≡ phase (suc d) (length w)) d
+    (λ j l. ap length (node-even kidA kidB d w j l) ∙ length-kidA (pre d w j) ∙ ap down (length-pre d w j l))
+    (λ j l. ap length (node-odd kidA kidB d w j) ∙ length-kidB (pre d w j) ∙ ap down (length-pre d w j l)) i h
+
+pub bits-pre : (d : ℕ) (w : List ℕ) (i : ℕ) → i < 2 ^ d → Bits w → Bits (pre d w i)
+unfolding node
+bits-pre zero w i h t = t
+bits-pre (suc d) w i h t = by-child (λ i. Bits (pre (suc d) w i)) d
+    (λ j l. rw (node-even kidA kidB d w j l) (bits-inputA (bits-cut (bits-pre d w j l t))))
+    (λ j l. rw (node-odd kidA kidB d w j) (bits-inputB (bits-cut (bits-pre d w j l t)))) i h
+
+-- ---- one more bit, over the tree
+
+-- the new bit of each node, from the parents' P and Q
+module _ (p q : ℕ → ℕ → ℕ) (b : ℕ) where
+  unfoldable pub new : ℕ → ℕ → ℕ
+  new zero i = b
+  new (suc d) i = cond (ltb i (2 ^ d)) (p d i ⊕ new d i) (q d (i - 2 ^ d) ⊕ new d (i - 2 ^ d))
+
+  pub new-even : (d i : ℕ) → i < 2 ^ d → new (suc d) i ≡ p d i ⊕ new d i
+  unfolding new
+  new-even d i h = ap (λ (c : Bool). cond c (p d i ⊕ new d i) (q d (i - 2 ^ d) ⊕ new d (i - 2 ^ d))) (is-true (ltb i (2 ^ d)) (lt→ltb i (2 ^ d) h))
+
+  pub new-odd : (d i : ℕ) → new (suc d) (i + 2 ^ d) ≡ q d i ⊕ new d i
+  unfolding new
+  new-odd d i =
+      let e : i + 2 ^ d - 2 ^ d ≡ i = omega arith in
+      ap (λ (c : Bool). cond c (p d (i + 2 ^ d) ⊕ new d (i + 2 ^ d)) (q d (i + 2 ^ d - 2 ^ d) ⊕ new d (i + 2 ^ d - 2 ^ d)))
+      (is-false (ltb (i + 2 ^ d) (2 ^ d)) (le→nltb (i + 2 ^ d) (2 ^ d) (omega arith)))
+      ∙ ap (λ (j : ℕ). q d j ⊕ new d j) e
+
+  module _ (D : ℕ) (w : List ℕ) (t : Bits w)
+      (pq : (d i : ℕ) → d < D → i < 2 ^ d → kind (phase d (length w)) ≡ even → (p d i ≡ P (pre d w i)) × (q d i ≡ Q (pre d w i))) where
+    -- the node's prefix grows by its new bit, where the layer moves
+    abbrev Grows : ℕ → ℕ → Type 0
+    Grows d i = pre d (w ++ b ∷ []) i ≡ cond (moves d (length w)) (pre d w i ++ new d i ∷ []) (pre d w i)
+
+    grows-even : (d j : ℕ) → d < D → j < 2 ^ d → Grows d j → Grows (suc d) j
+    grows-even d j g l ih =
+        rw (node-even kidA kidB d (w ++ b ∷ []) j l, node-even kidA kidB d w j l, new-even d j l, ih) (go (moves d (length w)))
+      where
+        v : List ℕ
+        v = pre d w j
+
+        lv : length v ≡ phase d (length w)
+        lv = length-pre d w j l
+
+        go : (c : Bool) → kidA (cond c (v ++ new d j ∷ []) v) ≡ cond (cond c (isEven (kind (phase d (length w)))) false) (kidA v ++ (p d j ⊕ new d j) ∷ []) (kidA v)
+        go true = rw lv at (kidA-step v (new d j) (p d j) (bits-pre d w j l t) (λ e. pq d j g l (ap kind (sym lv) ∙ e) .0))
+        go false = refl
+
+    grows-odd : (d j : ℕ) → d < D → j < 2 ^ d → Grows d j → Grows (suc d) (j + 2 ^ d)
+    grows-odd d j g l ih =
+        rw (node-odd kidA kidB d (w ++ b ∷ []) j, node-odd kidA kidB d w j, new-odd d j, ih) (go (moves d (length w)))
+      where
+        v : List ℕ
+        v = pre d w j
+
+        lv : length v ≡ phase d (length w)
+        lv = length-pre d w j l
+
+        go : (c : Bool) → kidB (cond c (v ++ new d j ∷ []) v) ≡ cond (cond c (isEven (kind (phase d (length w)))) false) (kidB v ++ (q d j ⊕ new d j) ∷ []) (kidB v)
+        go true = rw lv at (kidB-step v (new d j) (q d j) (λ e. pq d j g l (ap kind (sym lv) ∙ e) .1))
+        go false = refl
+
+    pub pre-step : (d i : ℕ) → d ≤ D → i < 2 ^ d → pre d (w ++ b ∷ []) i ≡ cond (moves d (length w)) (pre d w i ++ new d i ∷ []) (pre d w i)
+    pre-step zero i g h = unfold node new in refl
+    pre-step (suc d) i g h = by-child (Grows (suc d)) d
+        (λ j l. grows-even d j g l (pre-step d j (omega arith) l)) (λ j l. grows-odd d j g l (pre-step d j (omega arith) l)) i h
+
+-- ---- lengths
+down-le : (n k : ℕ) → n ≤ 2 * k → down n ≤ k
+down-le zero k h = omega arith
+down-le (suc n) k h = omega (arith, half-is n)
+
+pub phase-le : (d k n : ℕ) → n ≤ 2 ^ (d + k) → phase d n ≤ 2 ^ k
+phase-le zero k n h = rw zero-add at h
+phase-le (suc d) k n h =
+    let e : suc d + k ≡ d + suc k = omega arith in
+    let h′ : n ≤ 2 ^ (d + suc k) = rw e at h in
+    down-le (phase d n) (2 ^ k) (omega (arith, phase-le d (suc k) n h′))
+
+pub kind-odd : (v : List ℕ) → Odd v → kind (length v) ≡ odd
+kind-odd [] o = absurd o
+kind-odd (x ∷ []) o = refl
+kind-odd (x ∷ y ∷ []) o = absurd o
+kind-odd (x ∷ y ∷ z ∷ r) o = kind-odd (z ∷ r) o
+
+pub odd-not-even : odd ≡ even → ⊥
+odd-not-even e = let z : _≡_ {A = ℕ} 0 1 = ap num e in omega arith
+  where
+    num : Kind → ℕ
+    num none = 0
+    num odd = 0
+    num even = 1
+
+pub none-not-even : none ≡ even → ⊥
+none-not-even e = let z : _≡_ {A = ℕ} 0 1 = ap num e in omega arith
+  where
+    num : Kind → ℕ
+    num none = 0
+    num odd = 0
+    num even = 1
+
+pub pre-nil : (d i : ℕ) → i < 2 ^ d → pre d [] i ≡ []
+pre-nil zero i h = unfold node in refl
+pre-nil (suc d) i h = by-child (λ i. pre (suc d) [] i ≡ []) d
+    (λ j l. node-even kidA kidB d [] j l ∙ ap kidA (pre-nil d j l)) (λ j l. node-odd kidA kidB d [] j ∙ ap kidB (pre-nil d j l)) i h
+
+-- ---- closed forms: a layer's phase is (n + 1) / 2 ^ d - 1, and a layer moves where its phase does
+half-pred : (q : ℕ) → (q - 1 - 1) / 2 ≡ q / 2 - 1
+half-pred q = omega arith
+
+pub phase-is : (d n : ℕ) → phase d n ≡ (n + 1) / 2 ^ d - 1
+phase-is zero n = rw div-one (omega arith)
+phase-is (suc d) n =
+    ap down (phase-is d n) ∙ down-is ((n + 1) / 2 ^ d - 1) ∙ half-pred ((n + 1) / 2 ^ d)
+    ∙ ap (λ (q : ℕ). q - 1) (div-div-eq-div-mul (n + 1) (2 ^ d) 2 ∙ ap (λ (p : ℕ). (n + 1) / p) (sym (pow-suc 2 d)))
+
+pub moves-is : (d n : ℕ) → moves d n ≡ ltb (phase d n) (phase d (suc n))
+moves-is d n = rw (phase-suc d n) (go (moves d n))
+  where
+    go : (c : Bool) → c ≡ ltb (phase d n) (cond c (suc (phase d n)) (phase d n))
+    go true = sym (is-true (ltb (phase d n) (suc (phase d n))) (lt→ltb (phase d n) (suc (phase d n)) (omega arith)))
+    go false = sym (is-false (ltb (phase d n) (phase d n)) (le→nltb (phase d n) (phase d n) (omega arith)))
+
+-- a phase's kind, by tests that code can make
+pub kind-of-odd : (n : ℕ) → n % 2 ≡ 1 → kind n ≡ odd
+kind-of-odd zero h = absurd (omega arith)
+kind-of-odd (suc zero) h = refl
+kind-of-odd (suc (suc zero)) h = absurd (omega arith)
+kind-of-odd (suc (suc (suc n))) h = kind-of-odd (suc n) (omega arith)
+
+pub kind-of-even : (n : ℕ) → n % 2 ≡ 0 → 0 < n → kind n ≡ even
+kind-of-even zero h p = absurd (omega arith)
+kind-of-even (suc zero) h p = absurd (omega arith)
+kind-of-even (suc (suc zero)) h p = refl
+kind-of-even (suc (suc (suc n))) h p = kind-of-even (suc n) (omega arith) (omega arith)

@@ -1,0 +1,9 @@
+pub mod Bits
+pub mod Transform
+pub mod Code
+pub mod Score
+pub mod Decoder
+pub mod Faults
+pub mod Refusals
+pub mod Record
+pub mod Outcome

@@ -1,0 +1,117 @@
+-- What each call answers, and what every lent slice then holds, on refusal too. A refused call gives the number alone and leaves
+-- all lent memory as before.
+use mathlib.Core.List.{List, [], _∷_, _++_, map}
+use Prim.Native.Nat.{ℕ, zero, suc, _-_}
+use lib.ListN.{length, replicate}
+use lib.IntN.{ℤ, pos}
+use Rattle.spec.specs.Code.{Code, size, codeTransform, encoded, extracted}
+use Rattle.spec.specs.Decoder.{Row, rows}
+use Rattle.spec.specs.Faults.{first, settled}
+use Rattle.spec.specs.Refusals.{Room, encodeFaults, extractFaults, decodeFaults}
+use Rattle.spec.specs.Record.{exponent, listSize, stopPosition, frameNumber, recordMap, recordSoft, shapeFaults, fieldFaults}
+
+-- a list at the front of a slice of n places, and z behind it
+abbrev pub padded : {A : Type 0} → A → ℕ → List A → List A
+padded z n xs = xs ++ replicate (n - length xs) z
+
+-- ---- encoder and extractor: 0 or the refusal number, and the output
+pub record Written : Type 0 where
+  pub number : ℕ
+  pub output : List ℕ
+
+abbrev pub written : ℕ → List ℕ → Written
+written k out = record { number = k; output = out }
+
+unfoldable pub encodeRefusal : Code → List ℕ → ℕ → ℕ
+encodeRefusal c payload room = first (encodeFaults c payload room)
+
+unfoldable pub encodeOutcome : Code → List ℕ → List ℕ → Written
+encodeOutcome c payload out =
+    settled (encodeRefusal c payload (length out)) (λ k. written k out) (written 0 (padded 0 (length out) (encoded c payload)))
+
+unfoldable pub extractRefusal : Code → List ℕ → ℕ → ℕ
+extractRefusal c word room = first (extractFaults c word room)
+
+unfoldable pub extractOutcome : Code → List ℕ → List ℕ → Written
+extractOutcome c word out =
+    settled (extractRefusal c word (length out)) (λ k. written k out) (written 0 (padded 0 (length out) (extracted c word)))
+
+-- ---- decoder: the row count or the refusal number, and the five lent slices
+pub data Answer : Type 0 where
+  rowCount refusedBy : ℕ → Answer
+
+pub record Lent : Type 0 where
+  pub numbers : List ℕ
+  pub bytes : List ℕ
+  pub inputs : List ℕ
+  pub words : List ℕ
+  pub scores : List ℤ
+
+abbrev pub lent : List ℕ → List ℕ → List ℕ → List ℕ → List ℤ → Lent
+lent a b i w s = record { numbers = a; bytes = b; inputs = i; words = w; scores = s }
+
+abbrev pub roomOf : Lent → Room
+roomOf x = record {
+  numbers = length (x .numbers);
+  bytes = length (x .bytes);
+  inputs = length (x .inputs);
+  words = length (x .words);
+  scores = length (x .scores);
+}
+
+pub record Decoding : Type 0 where
+  pub answer : Answer
+  pub left : Lent
+
+abbrev pub decoding : Answer → Lent → Decoding
+decoding a x = record { answer = a; left = x }
+
+abbrev pub concat : {A : Type 0} → List (List A) → List A
+concat [] = []
+concat (x ∷ xs) = x ++ concat xs
+
+unfoldable pub decodeRefusal : Code → ℕ → ℕ → List ℤ → Room → ℕ
+decodeRefusal c l p soft room = first (decodeFaults c l p soft room)
+
+-- rows in slices as long as those of `room`: the tables are 0, and the outputs hold the rows by rank and then 0
+abbrev pub decodedRows : Room → List Row → Decoding
+decodedRows room rs = decoding (rowCount (length rs)) (lent
+    (replicate (room .numbers) 0)
+    (replicate (room .bytes) 0)
+    (padded 0 (room .inputs) (concat (map (λ (r : Row). r .input) rs)))
+    (padded 0 (room .words) (concat (map (λ (r : Row). r .word) rs)))
+    (padded (pos 0) (room .scores) (map (λ (r : Row). r .score) rs)))
+
+-- a call that is served holds the rows of the paper decoder
+unfoldable pub decodeServed : Code → ℕ → ℕ → List ℤ → Room → Decoding
+decodeServed c l p soft room = decodedRows room (rows (codeTransform c) c soft l p)
+
+unfoldable pub decodeOutcome : Code → ℕ → ℕ → List ℤ → Lent → Decoding
+decodeOutcome c l p soft x =
+    settled (decodeRefusal c l p soft (roomOf x)) (λ k. decoding (refusedBy k) x) (decodeServed c l p soft (roomOf x))
+
+-- ---- record reader: m, list size, stop position and frame number, or the refusal number, and the two lent slices
+pub data Job : Type 0 where
+  job : ℕ → ℕ → ℕ → ℕ → Job
+  refusedJob : ℕ → Job
+
+pub record Reading : Type 0 where
+  pub answer : Job
+  pub map : List ℕ
+  pub soft : List ℤ
+
+abbrev pub reading : Job → List ℕ → List ℤ → Reading
+reading a map soft = record { answer = a; map = map; soft = soft }
+
+unfoldable pub readRefusal : List ℕ → ℕ → ℕ → ℕ
+readRefusal s maps softs = first (shapeFaults s ++ fieldFaults s maps softs)
+
+unfoldable pub readServed : List ℕ → ℕ → ℕ → Reading
+readServed s maps softs = reading
+    (job (exponent s) (listSize s) (stopPosition s) (frameNumber s))
+    (padded 0 maps (recordMap s))
+    (padded (pos 0) softs (recordSoft s))
+
+unfoldable pub readOutcome : List ℕ → List ℕ → List ℤ → Reading
+readOutcome s map soft =
+    settled (readRefusal s (length map) (length soft)) (λ k. reading (refusedJob k) map soft) (readServed s (length map) (length soft))
