@@ -6,3 +6,4 @@ pub mod Windows
 pub mod Nodes
 pub mod Cells
 pub mod Bounds
+pub mod ListCost

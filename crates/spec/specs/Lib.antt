@@ -7,3 +7,8 @@ pub mod Faults
 pub mod Refusals
 pub mod Record
 pub mod Outcome
+pub mod SignedOrder
+pub mod ScoreIsLargest
+pub mod OrderIsTotal
+pub mod RowCount
+pub mod Examples

@@ -1,0 +1,120 @@
+-- The paper decoder's order, by costs: the lower cost first, then the prefix with 0 at the first place where two differ.
+use mathlib.Core.Path.{_≡_, refl, sym, ap, ap₂, subst, _∙_}
+use mathlib.Core.Bool.{Bool, true, false, not, cond, _&&_, _||_}
+use mathlib.Core.List.{List, [], _∷_, _++_, map}
+use Prim.Native.Nat.{ℕ, zero, suc, _+_, _-_, _*_, _^_, _<_, _≤_}
+use native.Mathlib.Omega.{arith}
+use native.Mathlib.Nat.{suc-inj}
+use lib.ListN.{length, length-append, take, getD}
+use lib.IntN.{ℤ, pos, _-ℤ_}
+use lib.Dec.{T, ltb, leb, leb→le, le→leb, ltb→lt, lt→ltb, nleb→lt}
+use lib.Arith.{lt→nleb}
+use lib.Signed.{leZ}
+use Rattle.spec.specs.Transform.{transform}
+use Rattle.spec.specs.Code.{Code, size, frozen, codeTransform}
+use Rattle.spec.specs.Score.{score}
+use Rattle.spec.specs.Decoder.{insertBy, sortBy, lexBefore, ahead, continued, children, families, live, scoreOf}
+use Rattle.laws.specs.Cost.{cost, magnitude}
+use Rattle.laws.specs.ScoreCost.{leZ-sub, score-is}
+
+abbrev pub cheaper : (List ℕ → ℕ) → List ℕ → List ℕ → Bool
+cheaper f v w = ltb (f v) (f w) || (leb (f v) (f w) && lexBefore v w)
+
+-- ---- a property of every element, through a sort and a cut
+pub data All {A : Type 0} (P : A → Type 0) : List A → Type 0 where
+  none : All P []
+  more : {x : A} {xs : List A} → P x → All P xs → All P (x ∷ xs)
+
+module _ {A : Type 0} {P : A → Type 0} where
+  all-cond : (b : Bool) {u v : List A} → All P u → All P v → All P (cond b u v)
+  all-cond true p q = p
+  all-cond false p q = q
+
+  pub all-insert : (le : A → A → Bool) (x : A) {ys : List A} → P x → All P ys → All P (insertBy le x ys)
+  all-insert le x p none = more p none
+  all-insert le x p (more {x = y} q a) = all-cond (le x y) (more p (more q a)) (more q (all-insert le x p a))
+
+  pub all-sort : (le : A → A → Bool) {xs : List A} → All P xs → All P (sortBy le xs)
+  all-sort le none = none
+  all-sort le (more {x} p a) = all-insert le x p (all-sort le a)
+
+  pub all-take : (n : ℕ) {xs : List A} → All P xs → All P (take n xs)
+  all-take zero a = none
+  all-take (suc n) none = none
+  all-take (suc n) (more p a) = more p (all-take n a)
+
+  pub all-append : {u v : List A} → All P u → All P v → All P (u ++ v)
+  all-append none q = q
+  all-append (more p a) q = more p (all-append a q)
+
+-- ---- two tests that agree on the elements sort alike
+module _ {A : Type 0} {P : A → Type 0} (le le′ : A → A → Bool) (same : (a b : A) → P a → P b → le a b ≡ le′ a b) where
+  insert-same : (x : A) {ys : List A} → P x → All P ys → insertBy le x ys ≡ insertBy le′ x ys
+  insert-same x p none = refl
+  insert-same x p (more {x = y} {xs = ys} q a) = ap₂ (λ (b : Bool) (r : List A). cond b (x ∷ y ∷ ys) (y ∷ r)) (same x y p q) (insert-same x p a)
+
+  pub sort-same : {xs : List A} → All P xs → sortBy le xs ≡ sortBy le′ xs
+  sort-same none = refl
+  sort-same (more {x} p a) = ap (insertBy le x) (sort-same a) ∙ insert-same x p (all-sort le′ a)
+
+-- ---- tests of numbers that agree
+bool-ext : (a b : Bool) → (T a → T b) → (T b → T a) → a ≡ b
+bool-ext true true f g = refl
+bool-ext true false f g = absurd (f tt)
+bool-ext false true f g = absurd (g tt)
+bool-ext false false f g = refl
+
+leb-twice : (a b : ℕ) → leb (2 * a) (2 * b) ≡ leb a b
+leb-twice a b = bool-ext (leb (2 * a) (2 * b)) (leb a b)
+    (λ t. let h : 2 * a ≤ 2 * b = leb→le (2 * a) (2 * b) t in le→leb a b (omega arith))
+    (λ t. let h : a ≤ b = leb→le a b t in le→leb (2 * a) (2 * b) (omega arith))
+
+not-leb : (a b : ℕ) → not (leb b a) ≡ ltb a b
+not-leb a b = bool-ext (not (leb b a)) (ltb a b) (λ t. lt→ltb a b (nleb→lt b a t)) (λ t. lt→nleb b a (ltb→lt a b t))
+
+module _ (m : ℕ) (y : List ℤ) (ey : length y ≡ 2 ^ m) where
+  -- on prefixes the two orders agree
+  pub ahead-cheaper : (v w : List ℕ) → length v ≤ 2 ^ m → length w ≤ 2 ^ m
+      → ahead (score (transform m) (2 ^ m) y) v w ≡ cheaper (cost m y) v w
+  ahead-cheaper v w hv hw =
+      let s : ℕ = magnitude y in
+      ap₂ (λ (a b : ℤ). not (leZ a b) || (leZ b a && lexBefore v w)) (score-is m y v ey hv) (score-is m y w ey hw)
+      ∙ ap₂ (λ (a b : Bool). not a || (b && lexBefore v w))
+      (leZ-sub s (2 * cost m y v) (2 * cost m y w) ∙ leb-twice (cost m y w) (cost m y v))
+      (leZ-sub s (2 * cost m y w) (2 * cost m y v) ∙ leb-twice (cost m y v) (cost m y w))
+      ∙ ap (λ (a : Bool). a || (leb (cost m y v) (cost m y w) && lexBefore v w)) (not-leb (cost m y v) (cost m y w))
+
+-- ---- the prefixes after i positions have i bits
+abbrev pub Long : ℕ → List ℕ → Type 0
+Long n w = length w ≡ n
+
+longer : (n b : ℕ) (w : List ℕ) → Long n w → Long (suc n) (w ++ b ∷ [])
+longer n b w h = omega (arith, length-append w (b ∷ []))
+
+pub continued-long : (f n : ℕ) (w : List ℕ) → Long n w → All (Long (suc n)) (continued f w)
+continued-long zero n w h = more (longer n 0 w h) (more (longer n 1 w h) none)
+continued-long (suc f) n w h = more (longer n 0 w h) none
+
+pub families-all : {P Q : List ℕ → Type 0} (f : List ℕ → List (List ℕ)) → ((w : List ℕ) → P w → All Q (f w)) → {ws : List (List ℕ)} → All P ws → All Q (families f ws)
+families-all f h none = none
+families-all f h (more {x = w} p a) = all-append (h w p) (families-all f h a)
+
+module _ (T : List ℕ → List ℕ) (c : Code) (y : List ℤ) (l : ℕ) where
+  pub family-long : (i : ℕ) {ws : List (List ℕ)} → All (Long i) ws → All (Long (suc i)) (families (children c i) ws)
+  unfolding children
+  family-long i a = families-all (λ w. continued (getD (frozen c) i 0) w) (λ w. continued-long (getD (frozen c) i 0) i w) a
+
+  pub live-long : (i : ℕ) → All (Long i) (live T c y l i)
+  unfolding live
+  live-long zero = more refl none
+  live-long (suc i) = all-take l (all-sort (ahead (scoreOf T c y l)) (family-long i (live-long i)))
+
+-- one position of the paper decoder, by costs
+module _ (c : Code) (y : List ℤ) (l : ℕ) (ey : length y ≡ size c) where
+  pub live-by-cost : (i : ℕ) → i < size c
+      → live (codeTransform c) c y l (suc i) ≡ take l (sortBy (cheaper (cost (c .m) y)) (families (children c i) (live (codeTransform c) c y l i)))
+  unfolding live
+  live-by-cost i h = ap (take l)
+      (sort-same {P = Long (suc i)} (ahead (score (transform (c .m)) (2 ^ c .m) y)) (cheaper (cost (c .m) y))
+      (λ v w p q. ahead-cheaper (c .m) y ey v w (omega (arith, p)) (omega (arith, q)))
+      (family-long (codeTransform c) c y l i (live-long (codeTransform c) c y l i)))

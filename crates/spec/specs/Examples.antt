@@ -1,0 +1,81 @@
+-- The starred examples of document 01, as one table: what the definitions give beside what 01 states. n = 4 unless said.
+use mathlib.Core.Path.{_≡_, refl}
+use mathlib.Core.List.{List, [], _∷_, _++_, map}
+use Prim.Native.Nat.{ℕ, zero, suc}
+use lib.IntN.{ℤ, pos, negsuc}
+use Rattle.spec.specs.Bits.{bitsOf, packed, unpacked}
+use Rattle.spec.specs.Transform.{transform, inverse, tableEntry}
+use Rattle.spec.specs.Code.{Code, code, frozen, codeTransform, encoded, inputOf, extracted}
+use Rattle.spec.specs.Score.{largest, score}
+use Rattle.spec.specs.Decoder.{Row, children, live, rows}
+use Rattle.spec.specs.Faults.{first, some}
+use Rattle.spec.specs.Refusals.{pastEnd}
+use Rattle.spec.specs.Outcome.{Written, written, encodeRefusal, encodeOutcome, extractRefusal, extractOutcome}
+
+pub data Value : Type 0 where
+  words : List (List ℕ) → Value
+  entries : List ℕ → Value
+  call : Written → Value
+  scores : List ℤ → Value
+  decoded : List (List ℕ × ℤ) → Value
+
+pub record Example : Type 0 where
+  pub found : Value
+  pub stated : Value
+
+infix 10 _is_
+abbrev pub _is_ : Value → Value → Example
+v is w = record { found = v; stated = w }
+
+abbrev pub word4 : ℕ → ℕ → ℕ → ℕ → List ℕ
+word4 a b c d = a ∷ b ∷ c ∷ d ∷ []
+
+-- y = (5, −3, 2, 7), and y = (1, −5, 2, 2)
+unfoldable pub y₁ : List ℤ
+y₁ = pos 5 ∷ negsuc 2 ∷ pos 2 ∷ pos 7 ∷ []
+
+unfoldable pub y₂ : List ℤ
+y₂ = pos 1 ∷ negsuc 4 ∷ pos 2 ∷ pos 2 ∷ []
+
+unfoldable pub y₀ : List ℤ
+y₀ = pos 0 ∷ pos 0 ∷ pos 0 ∷ pos 0 ∷ []
+
+-- codes of four positions by their map: frozen 0 and 1; frozen 1, 2 and 3; nothing frozen
+unfoldable pub frozen01 : Code
+frozen01 = code 2 (3 ∷ [])
+
+unfoldable pub frozen123 : Code
+frozen123 = code 2 (14 ∷ [])
+
+unfoldable pub noneFrozen : Code
+noneFrozen = code 2 (0 ∷ [])
+
+abbrev pub shown : Row → List ℕ × ℤ
+shown r = (r .input, r .score)
+
+-- the rows of the paper decoder, and their scores alone
+abbrev pub decode : Code → List ℤ → ℕ → ℕ → List Row
+decode c y l p = rows (codeTransform c) c y l p
+
+abbrev pub scoresOf : List Row → List ℤ
+scoresOf = map (λ (r : Row). r .score)
+
+unfoldable pub table : List Example
+table =
+    (words (map (transform 2) (word4 1 0 0 0 ∷ word4 0 1 0 0 ∷ word4 0 0 1 0 ∷ word4 0 0 0 1 ∷ []))
+    is words (word4 1 0 0 0 ∷ word4 1 1 0 0 ∷ word4 0 1 1 0 ∷ word4 1 1 1 1 ∷ []))
+    ∷ (entries (tableEntry 64 ∷ tableEntry 128 ∷ []) is entries (105 ∷ 255 ∷ []))
+    ∷ (call (encodeOutcome frozen01 (1 ∷ 1 ∷ []) (word4 9 9 9 9)) is call (written 0 (word4 1 0 0 1)))
+    ∷ (call (extractOutcome frozen01 (word4 1 0 0 1) (9 ∷ 9 ∷ [])) is call (written 0 (1 ∷ 1 ∷ [])))
+    ∷ (scores (map (score (transform 2) 4 y₁) ([] ∷ (0 ∷ []) ∷ (0 ∷ 0 ∷ []) ∷ [])) is scores (pos 17 ∷ pos 13 ∷ pos 13 ∷ []))
+    ∷ (decoded (map shown (decode frozen01 y₁ 1 4)) is decoded ((word4 0 0 1 0, pos 13) ∷ []))
+    ∷ (scores (scoresOf (decode frozen01 y₁ 4 4)) is scores (pos 13 ∷ pos 11 ∷ negsuc 10 ∷ negsuc 12 ∷ []))
+    ∷ (decoded (map shown (decode frozen123 y₂ 1 4)) is decoded ((word4 1 0 0 0, negsuc 1) ∷ []))
+    ∷ (decoded (map shown (decode frozen123 y₂ 2 4)) is decoded ((word4 0 0 0 0, pos 0) ∷ (word4 1 0 0 0, negsuc 1) ∷ []))
+    ∷ (decoded (map shown (decode noneFrozen y₀ 2 4)) is decoded ((word4 0 0 0 0, pos 0) ∷ (word4 0 0 0 1, pos 0) ∷ []))
+    ∷ (decoded (map shown (decode noneFrozen y₁ 2 0)) is decoded ((word4 0 0 0 0, pos 17) ∷ []))
+    ∷ []
+
+pub starred-examples : map (λ (e : Example). e .found) table ≡ map (λ (e : Example). e .stated) table
+unfolding table y₀ y₁ y₂ frozen01 frozen123 noneFrozen bitsOf packed unpacked transform inverse tableEntry frozen encoded inputOf extracted largest score children live rows first some pastEnd encodeRefusal encodeOutcome extractRefusal extractOutcome
+starred-examples = refl
