@@ -1,14 +1,14 @@
--- Every entry of a table is at most the sum of the soft values' sizes.
-use mathlib.Core.Path.{_≡_, refl, sym, ap, ap₂, subst, _∙_}
+-- Every entry of a table is at most the sum of the nodeSoft values' sizes.
+use mathlib.Core.Path.{_≡_, refl}
 use mathlib.Core.List.{List, [], _∷_, _++_}
-use Prim.Native.Nat.{ℕ, zero, suc, _+_, _-_, _*_, _/_, _%_, _^_, _<_, _≤_, min}
+use Prim.Native.Nat.{ℕ, zero, suc, _+_, _-_, _/_, _%_, _^_, _<_, _≤_}
 use native.Mathlib.Omega.{arith}
 use lib.ListN.{length, take}
 use lib.IntN.{ℤ, pos, negsuc, natAbs}
 use Rattle.spec.specs.Transform.{evens, odds, transform}
 use Rattle.laws.specs.Cost.{bitCost, wordCost, magnitude, leastCost, cost}
-use Rattle.laws.specs.Windows.{win, W4, at4}
-use Rattle.laws.specs.Nodes.{cut, node, node-even, node-odd, soft, by-child}
+use Rattle.laws.specs.Windows.{win}
+use Rattle.laws.specs.Nodes.{cut, node, node-even, node-odd, nodeSoft, by-child}
 use Rattle.laws.specs.Cells.{Cell, Good}
 
 pub bitCost-le : (y : ℤ) (c : ℕ) → bitCost y c ≤ natAbs y
@@ -40,12 +40,12 @@ magnitude-halves [] = refl
 magnitude-halves (x ∷ []) = omega arith
 magnitude-halves (x ∷ z ∷ r) = omega (arith, magnitude-halves r)
 
-pub magnitude-soft : (d : ℕ) (y : List ℤ) (i : ℕ) → i < 2 ^ d → magnitude (soft d y i) ≤ magnitude y
+pub magnitude-nodeSoft : (d : ℕ) (y : List ℤ) (i : ℕ) → i < 2 ^ d → magnitude (nodeSoft d y i) ≤ magnitude y
 unfolding node
-magnitude-soft zero y i h = omega arith
-magnitude-soft (suc d) y i h = by-child (λ i. magnitude (soft (suc d) y i) ≤ magnitude y) d
-    (λ j l. rw (node-even evens odds d y j l) (omega (arith, magnitude-halves (soft d y j), magnitude-soft d y j l)))
-    (λ j l. rw (node-odd evens odds d y j) (omega (arith, magnitude-halves (soft d y j), magnitude-soft d y j l))) i h
+magnitude-nodeSoft zero y i h = omega arith
+magnitude-nodeSoft (suc d) y i h = by-child (λ i. magnitude (nodeSoft (suc d) y i) ≤ magnitude y) d
+    (λ j l. rw (node-even evens odds d y j l) (omega (arith, magnitude-halves (nodeSoft d y j), magnitude-nodeSoft d y j l)))
+    (λ j l. rw (node-odd evens odds d y j) (omega (arith, magnitude-halves (nodeSoft d y j), magnitude-nodeSoft d y j l))) i h
 
-pub tab-le : (m : ℕ) (y : List ℤ) (v : List ℕ) (c : Cell) → Good m y v c → (x : ℕ) → x < 16 → c .tab x ≤ magnitude y
-tab-le m y v c g x h = omega (arith, g .tab-is x h, win-le m y (cut v) (x % 2 ∷ x / 2 % 2 ∷ x / 4 % 2 ∷ x / 8 % 2 ∷ []))
+pub costs-le : (m : ℕ) (y : List ℤ) (v : List ℕ) (c : Cell) → Good m y v c → (x : ℕ) → x < 16 → c .costs x ≤ magnitude y
+costs-le m y v c g x h = omega (arith, g .costs-are x h, win-le m y (cut v) (x % 2 ∷ x / 2 % 2 ∷ x / 4 % 2 ∷ x / 8 % 2 ∷ []))

@@ -1,37 +1,16 @@
 -- More rules of `cost`: one more bit, the layer rule at an even prefix, a fast way to compute it, and where the layers' entries are.
-use mathlib.Core.Path.{_≡_, refl, sym, ap, ap₂, subst, _∙_}
-use mathlib.Core.Bool.{Bool, true, false, not}
-use mathlib.Core.List.{List, [], _∷_, _++_, append-nil, append-assoc}
-use Prim.Native.Nat.{ℕ, zero, suc, _+_, _-_, _*_, _^_, _%_, _<_, _≤_, min}
+use mathlib.Core.Path.{_≡_, refl}
+use mathlib.Core.List.{List, [], _∷_, _++_}
+use Prim.Native.Nat.{ℕ, zero, suc, _+_, _-_, _^_, _<_}
 use native.Mathlib.Omega.{arith}
-use native.Mathlib.Nat.{le-of-suc-le-suc, min-eq-left, min-eq-right, le-of-lt}
+use native.Mathlib.Nat.{le-of-suc-le-suc}
 use lib.ListN.{length, length-append, getD}
-use lib.IntN.{ℤ, pos, negsuc}
-use lib.Dec.{T, ltb, leb, leb→le, nleb→lt, ltb→lt, nltb→le}
-use lib.Bits.{bitXor}
-use Rattle.spec.specs.Bits.{_⊕_, flip}
-use Rattle.spec.specs.Transform.{inputA, inputB, evens, odds, transform}
-use Rattle.laws.specs.Cost.{last, wordCost, leastCost, cost}
-use Rattle.laws.specs.Layer.{Odd, odd-snoc², inputA-snoc², inputB-snoc², last-snoc, least, pair, double, half, length-inputA, length-inputB, length-odd, half-length, layer, layer-full, cost-empty}
-
--- ---- the bits' sum, as code may compute it
-pub ⊕-mod : (a b : ℕ) → a < 2 → b < 2 → a ⊕ b ≡ (a + b) % 2
-⊕-mod zero zero h k = refl
-⊕-mod zero (suc zero) h k = refl
-⊕-mod (suc zero) zero h k = refl
-⊕-mod (suc zero) (suc zero) h k = refl
-⊕-mod (suc (suc a)) b h k = absurd (omega arith)
-⊕-mod zero (suc (suc b)) h k = absurd (omega arith)
-⊕-mod (suc zero) (suc (suc b)) h k = absurd (omega arith)
-
-pub ⊕-xor : (a b : ℕ) → a < 2 → b < 2 → a ⊕ b ≡ bitXor a b
-⊕-xor zero zero h k = refl
-⊕-xor zero (suc zero) h k = refl
-⊕-xor (suc zero) zero h k = refl
-⊕-xor (suc zero) (suc zero) h k = refl
-⊕-xor (suc (suc a)) b h k = absurd (omega arith)
-⊕-xor zero (suc (suc b)) h k = absurd (omega arith)
-⊕-xor (suc zero) (suc (suc b)) h k = absurd (omega arith)
+use lib.IntN.{ℤ}
+use Rattle.spec.specs.Bits.{_⊕_}
+use Rattle.spec.specs.Transform.{inputA, inputB, evens, odds}
+use Rattle.laws.specs.Cost.{leastCost, cost}
+pub use Rattle.laws.specs.BitLaws.{⊕-mod, ⊕-xor}
+use Rattle.laws.specs.Layer.{least, double, layer}
 
 -- ---- entry i of a layer
 pub getD-inputA : (u : List ℕ) (i : ℕ) → i < length (inputA u)

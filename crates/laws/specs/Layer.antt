@@ -1,8 +1,7 @@
 -- The layer rule.
 use mathlib.Core.Path.{_≡_, refl, sym, ap, ap₂, _∙_}
-use mathlib.Core.Bool.{Bool, true, false, not}
 use mathlib.Core.List.{List, [], _∷_, _++_, append-assoc}
-use Prim.Native.Nat.{ℕ, zero, suc, _+_, _-_, _*_, _^_, _<_, _≤_, min}
+use Prim.Native.Nat.{ℕ, zero, suc, _+_, _-_, _*_, _^_, _<_, min}
 use native.Mathlib.Omega.{arith}
 use native.Mathlib.Nat.{suc-inj}
 use lib.ListN.{length, length-append}
@@ -10,7 +9,7 @@ use lib.IntN.{ℤ, pos, negsuc}
 use lib.Pow.{pow-pos, suc-ones}
 use Rattle.spec.specs.Bits.{_⊕_, flip}
 use Rattle.spec.specs.Transform.{inputA, inputB, interleave, evens, odds, transform}
-use Rattle.laws.specs.Cost.{last, bitCost, wordCost, leastCost, cost}
+use Rattle.laws.specs.Cost.{last, wordCost, leastCost, cost}
 
 -- ---- a word of odd length
 abbrev pub Odd : List ℕ → Type 0
@@ -97,7 +96,7 @@ length-transform² (suc m) u v e =
     ∙ ap double (length-transform² m (inputA u) (inputA v) (cc (length-inputA u, length-inputA v)))
     ∙ sym (length-interleave (transform m (inputA v)) (transform m (inputB v)) (length-transform² m (inputA v) (inputB v) (cc (length-inputA v, length-inputB v))))
 
-pow-double : (m : ℕ) → 2 ^ suc m ≡ double (2 ^ m)
+pub pow-double : (m : ℕ) → 2 ^ suc m ≡ double (2 ^ m)
 pow-double m = omega (arith, double-is (2 ^ m))
 
 pub half-length : (m : ℕ) (u : List ℕ) → length u ≡ 2 ^ suc m → half (length u) ≡ 2 ^ m

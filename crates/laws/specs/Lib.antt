@@ -1,3 +1,4 @@
+pub mod BitLaws
 pub mod Cost
 pub mod Layer
 pub mod ScoreCost
@@ -7,3 +8,8 @@ pub mod Nodes
 pub mod Cells
 pub mod Bounds
 pub mod ListCost
+pub mod Inverse
+pub mod FirstFault
+pub mod MapBits
+pub mod FrozenMap
+pub mod Accepted

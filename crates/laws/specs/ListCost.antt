@@ -1,12 +1,11 @@
 -- The paper decoder's order, by costs: the lower cost first, then the prefix with 0 at the first place where two differ.
-use mathlib.Core.Path.{_≡_, refl, sym, ap, ap₂, subst, _∙_}
+use mathlib.Core.Path.{_≡_, refl, ap, ap₂, _∙_}
 use mathlib.Core.Bool.{Bool, true, false, not, cond, _&&_, _||_}
-use mathlib.Core.List.{List, [], _∷_, _++_, map}
+use mathlib.Core.List.{List, [], _∷_, _++_}
 use Prim.Native.Nat.{ℕ, zero, suc, _+_, _-_, _*_, _^_, _<_, _≤_}
 use native.Mathlib.Omega.{arith}
-use native.Mathlib.Nat.{suc-inj}
 use lib.ListN.{length, length-append, take, getD}
-use lib.IntN.{ℤ, pos, _-ℤ_}
+use lib.IntN.{ℤ}
 use lib.Dec.{T, ltb, leb, leb→le, le→leb, ltb→lt, lt→ltb, nleb→lt}
 use lib.Arith.{lt→nleb}
 use lib.Signed.{leZ}

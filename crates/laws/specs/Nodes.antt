@@ -1,59 +1,25 @@
--- The nodes of the layers: their soft values, their decided prefixes, and how these grow bit by bit.
+-- The nodes of the layers: their nodeSoft values, their decided prefixes, and how these grow bit by bit.
 use mathlib.Core.Path.{_≡_, refl, sym, ap, ap₂, subst, _∙_}
 use mathlib.Core.Bool.{Bool, true, false, not, cond}
-use mathlib.Core.List.{List, [], _∷_, _++_, append-nil, append-assoc}
-use Prim.Native.Nat.{ℕ, zero, suc, _+_, _-_, _*_, _/_, _%_, _^_, _<_, _≤_, min}
+use mathlib.Core.List.{List, [], _∷_, _++_}
+use Prim.Native.Nat.{ℕ, zero, suc, _+_, _-_, _*_, _/_, _%_, _^_, _<_, _≤_}
 use native.Mathlib.Omega.{arith}
 use native.Mathlib.Nat.{zero-add, div-one, div-div-eq-div-mul, pow-suc}
-use lib.ListN.{length, length-append}
-use lib.IntN.{ℤ, pos, negsuc}
-use lib.Pow.{pow-pos}
+use lib.ListN.{length}
+use lib.IntN.{ℤ}
 use lib.Dec.{T, ltb, ltb→lt, lt→ltb, nltb→le}
 use lib.Arith.{le→nltb}
-use Rattle.spec.specs.Bits.{_⊕_, flip, Bits, nil, cons}
+use Rattle.spec.specs.Bits.{_⊕_, Bits, nil, cons}
 use Rattle.spec.specs.Transform.{inputA, inputB, evens, odds}
 use Rattle.laws.specs.Cost.{last}
-use Rattle.laws.specs.Layer.{Odd, odd-snoc², inputA-snoc², inputB-snoc², last-snoc, half, length-inputA, length-inputB, length-odd}
+pub use Rattle.laws.specs.BitLaws.{flip-lt, ⊕-lt, ⊕-assoc, bits-snoc, bits-inputA, bits-inputB}
+use Rattle.laws.specs.Layer.{Odd, odd-snoc², inputA-snoc², inputB-snoc², last-snoc, half, length-inputA, length-inputB}
 
 -- ---- bits
-pub flip-lt : (a : ℕ) → flip a < 2
-flip-lt zero = omega arith
-flip-lt (suc a) = omega arith
-
-pub ⊕-lt : (a b : ℕ) → a < 2 → (a ⊕ b) < 2
-⊕-lt a zero h = h
-⊕-lt a (suc b) h = flip-lt a
-
-flip-flip : (a : ℕ) → a < 2 → flip (flip a) ≡ a
-flip-flip zero h = refl
-flip-flip (suc zero) h = refl
-flip-flip (suc (suc a)) h = absurd (omega arith)
-
-pub ⊕-assoc : (a o b : ℕ) → a < 2 → (a ⊕ o) ⊕ b ≡ a ⊕ (o ⊕ b)
-⊕-assoc a o zero h = refl
-⊕-assoc a zero (suc b) h = refl
-⊕-assoc a (suc o) (suc b) h = flip-flip a h
-
-pub bits-snoc : {v : List ℕ} (x : ℕ) → Bits v → x < 2 → Bits (v ++ x ∷ [])
-bits-snoc x nil h = cons h nil
-bits-snoc x (cons a p) h = cons a (bits-snoc x p h)
-
 pub bits-last : {v : List ℕ} → Bits v → last v < 2
 bits-last nil = omega arith
 bits-last (cons a nil) = a
 bits-last (cons a (cons b p)) = bits-last (cons b p)
-
-pub bits-inputA : {v : List ℕ} → Bits v → Bits (inputA v)
-bits-inputA nil = nil
-bits-inputA (cons a nil) = nil
-bits-inputA (cons {x = x} a (cons {x = y} b nil)) = cons (⊕-lt x y a) nil
-bits-inputA (cons {x = x} a (cons {x = y} b (cons {x = z} c p))) = cons (⊕-lt x (y ⊕ z) a) (bits-inputA (cons c p))
-
-pub bits-inputB : {v : List ℕ} → Bits v → Bits (inputB v)
-bits-inputB nil = nil
-bits-inputB (cons a nil) = nil
-bits-inputB (cons a (cons b nil)) = cons b nil
-bits-inputB (cons a (cons {x = y} b (cons {x = z} c p))) = cons (⊕-lt y z b) (bits-inputB (cons c p))
 
 -- ---- a prefix, cut to its largest odd length
 abbrev pub cut : List ℕ → List ℕ
@@ -108,27 +74,27 @@ cut-even (x ∷ y ∷ []) b o = absurd o
 cut-even (x ∷ y ∷ z ∷ r) b o = ap (λ (l : List ℕ). x ∷ y ∷ l) (cut-even (z ∷ r) b o)
 
 -- ---- the children's prefixes
-abbrev pub kidA : List ℕ → List ℕ
-kidA v = inputA (cut v)
+abbrev pub childA : List ℕ → List ℕ
+childA v = inputA (cut v)
 
-abbrev pub kidB : List ℕ → List ℕ
-kidB v = inputB (cut v)
+abbrev pub childB : List ℕ → List ℕ
+childB v = inputB (cut v)
 
 -- one more bit at an empty or an odd prefix: the children stay
-pub kidA-odd : (v : List ℕ) (b : ℕ) → Odd v → kidA (v ++ b ∷ []) ≡ kidA v
-kidA-odd v b o = ap inputA (cut-even v b o ∙ sym (cut-odd v o))
+pub childA-odd : (v : List ℕ) (b : ℕ) → Odd v → childA (v ++ b ∷ []) ≡ childA v
+childA-odd v b o = ap inputA (cut-even v b o ∙ sym (cut-odd v o))
 
-pub kidB-odd : (v : List ℕ) (b : ℕ) → Odd v → kidB (v ++ b ∷ []) ≡ kidB v
-kidB-odd v b o = ap inputB (cut-even v b o ∙ sym (cut-odd v o))
+pub childB-odd : (v : List ℕ) (b : ℕ) → Odd v → childB (v ++ b ∷ []) ≡ childB v
+childB-odd v b o = ap inputB (cut-even v b o ∙ sym (cut-odd v o))
 
 -- at an even prefix v ++ [o] each child gets one bit
-pub kidA-even : (v : List ℕ) (o b : ℕ) → Odd v → last v < 2 → kidA (v ++ o ∷ [] ++ b ∷ []) ≡ kidA (v ++ o ∷ []) ++ ((last v ⊕ o) ⊕ b) ∷ []
-kidA-even v o b p h =
+pub childA-even : (v : List ℕ) (o b : ℕ) → Odd v → last v < 2 → childA (v ++ o ∷ [] ++ b ∷ []) ≡ childA (v ++ o ∷ []) ++ ((last v ⊕ o) ⊕ b) ∷ []
+childA-even v o b p h =
     ap inputA (cut-odd (v ++ o ∷ [] ++ b ∷ []) (odd-snoc² v o b p)) ∙ inputA-snoc² v o b p
     ∙ ap₂ (λ (l : List ℕ) (x : ℕ). inputA l ++ x ∷ []) (sym (cut-even v o p)) (sym (⊕-assoc (last v) o b h))
 
-pub kidB-even : (v : List ℕ) (o b : ℕ) → Odd v → kidB (v ++ o ∷ [] ++ b ∷ []) ≡ kidB (v ++ o ∷ []) ++ (o ⊕ b) ∷ []
-kidB-even v o b p =
+pub childB-even : (v : List ℕ) (o b : ℕ) → Odd v → childB (v ++ o ∷ [] ++ b ∷ []) ≡ childB (v ++ o ∷ []) ++ (o ⊕ b) ∷ []
+childB-even v o b p =
     ap inputB (cut-odd (v ++ o ∷ [] ++ b ∷ []) (odd-snoc² v o b p)) ∙ inputB-snoc² v o b p
     ∙ ap (λ (l : List ℕ). inputB l ++ (o ⊕ b) ∷ []) (sym (cut-even v o p))
 
@@ -138,37 +104,37 @@ isEven none = false
 isEven odd = false
 isEven even = true
 
-abbrev pub P : List ℕ → ℕ
-P v = last (cut v) ⊕ last v
+abbrev pub pairSum : List ℕ → ℕ
+pairSum v = last (cut v) ⊕ last v
 
-abbrev pub Q : List ℕ → ℕ
-Q v = last v
+abbrev pub oddLast : List ℕ → ℕ
+oddLast v = last v
 
-kidA-shape : {k : Kind} {v : List ℕ} (b p : ℕ) → Shape k v → Bits v → (k ≡ even → p ≡ P v)
-    → kidA (v ++ b ∷ []) ≡ cond (isEven k) (kidA v ++ (p ⊕ b) ∷ []) (kidA v)
-kidA-shape b p s-none t e = refl
-kidA-shape b p (s-odd v o) t e = kidA-odd v b o
-kidA-shape b p (s-even v x o) t e =
+childA-shape : {k : Kind} {v : List ℕ} (b p : ℕ) → Shape k v → Bits v → (k ≡ even → p ≡ pairSum v)
+    → childA (v ++ b ∷ []) ≡ cond (isEven k) (childA v ++ (p ⊕ b) ∷ []) (childA v)
+childA-shape b p s-none t e = refl
+childA-shape b p (s-odd v o) t e = childA-odd v b o
+childA-shape b p (s-even v x o) t e =
     let cv : cut (v ++ x ∷ []) ≡ v = cut-even v x o in
     let h : last v < 2 = subst (λ (l : List ℕ). last l < 2) cv (bits-last (bits-cut t)) in
     let ep : p ≡ last v ⊕ x = e refl ∙ ap₂ _⊕_ (ap last cv) (last-snoc v x) in
-    rw ep (kidA-even v x b o h)
+    rw ep (childA-even v x b o h)
 
-kidB-shape : {k : Kind} {v : List ℕ} (b q : ℕ) → Shape k v → (k ≡ even → q ≡ Q v)
-    → kidB (v ++ b ∷ []) ≡ cond (isEven k) (kidB v ++ (q ⊕ b) ∷ []) (kidB v)
-kidB-shape b q s-none e = refl
-kidB-shape b q (s-odd v o) e = kidB-odd v b o
-kidB-shape b q (s-even v x o) e =
+childB-shape : {k : Kind} {v : List ℕ} (b q : ℕ) → Shape k v → (k ≡ even → q ≡ oddLast v)
+    → childB (v ++ b ∷ []) ≡ cond (isEven k) (childB v ++ (q ⊕ b) ∷ []) (childB v)
+childB-shape b q s-none e = refl
+childB-shape b q (s-odd v o) e = childB-odd v b o
+childB-shape b q (s-even v x o) e =
     let eq : q ≡ x = e refl ∙ last-snoc v x in
-    rw eq (kidB-even v x b o)
+    rw eq (childB-even v x b o)
 
-pub kidA-step : (v : List ℕ) (b p : ℕ) → Bits v → (kind (length v) ≡ even → p ≡ P v)
-    → kidA (v ++ b ∷ []) ≡ cond (isEven (kind (length v))) (kidA v ++ (p ⊕ b) ∷ []) (kidA v)
-kidA-step v b p t e = kidA-shape b p (shape v) t e
+pub childA-step : (v : List ℕ) (b p : ℕ) → Bits v → (kind (length v) ≡ even → p ≡ pairSum v)
+    → childA (v ++ b ∷ []) ≡ cond (isEven (kind (length v))) (childA v ++ (p ⊕ b) ∷ []) (childA v)
+childA-step v b p t e = childA-shape b p (shape v) t e
 
-pub kidB-step : (v : List ℕ) (b q : ℕ) → (kind (length v) ≡ even → q ≡ Q v)
-    → kidB (v ++ b ∷ []) ≡ cond (isEven (kind (length v))) (kidB v ++ (q ⊕ b) ∷ []) (kidB v)
-kidB-step v b q e = kidB-shape b q (shape v) e
+pub childB-step : (v : List ℕ) (b q : ℕ) → (kind (length v) ≡ even → q ≡ oddLast v)
+    → childB (v ++ b ∷ []) ≡ cond (isEven (kind (length v))) (childB v ++ (q ⊕ b) ∷ []) (childB v)
+childB-step v b q e = childB-shape b q (shape v) e
 
 -- ---- phases
 abbrev pub down : ℕ → ℕ
@@ -190,11 +156,11 @@ half-cut (x ∷ []) = refl
 half-cut (x ∷ y ∷ []) = refl
 half-cut (x ∷ y ∷ z ∷ r) = ap suc (half-cut (z ∷ r))
 
-pub length-kidA : (v : List ℕ) → length (kidA v) ≡ down (length v)
-length-kidA v = length-inputA (cut v) ∙ half-cut v
+pub length-childA : (v : List ℕ) → length (childA v) ≡ down (length v)
+length-childA v = length-inputA (cut v) ∙ half-cut v
 
-pub length-kidB : (v : List ℕ) → length (kidB v) ≡ down (length v)
-length-kidB v = length-inputB (cut v) ∙ half-cut v
+pub length-childB : (v : List ℕ) → length (childB v) ≡ down (length v)
+length-childB v = length-inputB (cut v) ∙ half-cut v
 
 -- the phase of the layer d below the top, from the top's
 abbrev pub phase : ℕ → ℕ → ℕ
@@ -260,29 +226,29 @@ by-child Z d p q i h = go (ltb i (2 ^ d)) refl
         let b : i - 2 ^ d + 2 ^ d ≡ i = omega arith in
         subst Z b (q (i - 2 ^ d) (omega arith))
 
-abbrev pub soft : ℕ → List ℤ → ℕ → List ℤ
-soft = node evens odds
+abbrev pub nodeSoft : ℕ → List ℤ → ℕ → List ℤ
+nodeSoft = node evens odds
 
-abbrev pub pre : ℕ → List ℕ → ℕ → List ℕ
-pre = node kidA kidB
+abbrev pub nodePrefix : ℕ → List ℕ → ℕ → List ℕ
+nodePrefix = node childA childB
 
-pub length-pre : (d : ℕ) (w : List ℕ) (i : ℕ) → i < 2 ^ d → length (pre d w i) ≡ phase d (length w)
+pub length-nodePrefix : (d : ℕ) (w : List ℕ) (i : ℕ) → i < 2 ^ d → length (nodePrefix d w i) ≡ phase d (length w)
 unfolding node
-length-pre zero w i h = refl
-length-pre (suc d) w i h = by-child (λ i. length (pre (suc d) w i) ≡ phase (suc d) (length w)) d
-    (λ j l. ap length (node-even kidA kidB d w j l) ∙ length-kidA (pre d w j) ∙ ap down (length-pre d w j l))
-    (λ j l. ap length (node-odd kidA kidB d w j) ∙ length-kidB (pre d w j) ∙ ap down (length-pre d w j l)) i h
+length-nodePrefix zero w i h = refl
+length-nodePrefix (suc d) w i h = by-child (λ i. length (nodePrefix (suc d) w i) ≡ phase (suc d) (length w)) d
+    (λ j l. ap length (node-even childA childB d w j l) ∙ length-childA (nodePrefix d w j) ∙ ap down (length-nodePrefix d w j l))
+    (λ j l. ap length (node-odd childA childB d w j) ∙ length-childB (nodePrefix d w j) ∙ ap down (length-nodePrefix d w j l)) i h
 
-pub bits-pre : (d : ℕ) (w : List ℕ) (i : ℕ) → i < 2 ^ d → Bits w → Bits (pre d w i)
+pub bits-nodePrefix : (d : ℕ) (w : List ℕ) (i : ℕ) → i < 2 ^ d → Bits w → Bits (nodePrefix d w i)
 unfolding node
-bits-pre zero w i h t = t
-bits-pre (suc d) w i h t = by-child (λ i. Bits (pre (suc d) w i)) d
-    (λ j l. rw (node-even kidA kidB d w j l) (bits-inputA (bits-cut (bits-pre d w j l t))))
-    (λ j l. rw (node-odd kidA kidB d w j) (bits-inputB (bits-cut (bits-pre d w j l t)))) i h
+bits-nodePrefix zero w i h t = t
+bits-nodePrefix (suc d) w i h t = by-child (λ i. Bits (nodePrefix (suc d) w i)) d
+    (λ j l. rw (node-even childA childB d w j l) (bits-inputA (bits-cut (bits-nodePrefix d w j l t))))
+    (λ j l. rw (node-odd childA childB d w j) (bits-inputB (bits-cut (bits-nodePrefix d w j l t)))) i h
 
 -- ---- one more bit, over the tree
 
--- the new bit of each node, from the parents' P and Q
+-- the new bit of each node, from the parents' pairSum and oddLast
 module _ (p q : ℕ → ℕ → ℕ) (b : ℕ) where
   unfoldable pub new : ℕ → ℕ → ℕ
   new zero i = b
@@ -301,43 +267,43 @@ module _ (p q : ℕ → ℕ → ℕ) (b : ℕ) where
       ∙ ap (λ (j : ℕ). q d j ⊕ new d j) e
 
   module _ (D : ℕ) (w : List ℕ) (t : Bits w)
-      (pq : (d i : ℕ) → d < D → i < 2 ^ d → kind (phase d (length w)) ≡ even → (p d i ≡ P (pre d w i)) × (q d i ≡ Q (pre d w i))) where
+      (pq : (d i : ℕ) → d < D → i < 2 ^ d → kind (phase d (length w)) ≡ even → (p d i ≡ pairSum (nodePrefix d w i)) × (q d i ≡ oddLast (nodePrefix d w i))) where
     -- the node's prefix grows by its new bit, where the layer moves
     abbrev Grows : ℕ → ℕ → Type 0
-    Grows d i = pre d (w ++ b ∷ []) i ≡ cond (moves d (length w)) (pre d w i ++ new d i ∷ []) (pre d w i)
+    Grows d i = nodePrefix d (w ++ b ∷ []) i ≡ cond (moves d (length w)) (nodePrefix d w i ++ new d i ∷ []) (nodePrefix d w i)
 
     grows-even : (d j : ℕ) → d < D → j < 2 ^ d → Grows d j → Grows (suc d) j
     grows-even d j g l ih =
-        rw (node-even kidA kidB d (w ++ b ∷ []) j l, node-even kidA kidB d w j l, new-even d j l, ih) (go (moves d (length w)))
+        rw (node-even childA childB d (w ++ b ∷ []) j l, node-even childA childB d w j l, new-even d j l, ih) (go (moves d (length w)))
       where
         v : List ℕ
-        v = pre d w j
+        v = nodePrefix d w j
 
         lv : length v ≡ phase d (length w)
-        lv = length-pre d w j l
+        lv = length-nodePrefix d w j l
 
-        go : (c : Bool) → kidA (cond c (v ++ new d j ∷ []) v) ≡ cond (cond c (isEven (kind (phase d (length w)))) false) (kidA v ++ (p d j ⊕ new d j) ∷ []) (kidA v)
-        go true = rw lv at (kidA-step v (new d j) (p d j) (bits-pre d w j l t) (λ e. pq d j g l (ap kind (sym lv) ∙ e) .0))
+        go : (c : Bool) → childA (cond c (v ++ new d j ∷ []) v) ≡ cond (cond c (isEven (kind (phase d (length w)))) false) (childA v ++ (p d j ⊕ new d j) ∷ []) (childA v)
+        go true = rw lv at (childA-step v (new d j) (p d j) (bits-nodePrefix d w j l t) (λ e. pq d j g l (ap kind (sym lv) ∙ e) .0))
         go false = refl
 
     grows-odd : (d j : ℕ) → d < D → j < 2 ^ d → Grows d j → Grows (suc d) (j + 2 ^ d)
     grows-odd d j g l ih =
-        rw (node-odd kidA kidB d (w ++ b ∷ []) j, node-odd kidA kidB d w j, new-odd d j, ih) (go (moves d (length w)))
+        rw (node-odd childA childB d (w ++ b ∷ []) j, node-odd childA childB d w j, new-odd d j, ih) (go (moves d (length w)))
       where
         v : List ℕ
-        v = pre d w j
+        v = nodePrefix d w j
 
         lv : length v ≡ phase d (length w)
-        lv = length-pre d w j l
+        lv = length-nodePrefix d w j l
 
-        go : (c : Bool) → kidB (cond c (v ++ new d j ∷ []) v) ≡ cond (cond c (isEven (kind (phase d (length w)))) false) (kidB v ++ (q d j ⊕ new d j) ∷ []) (kidB v)
-        go true = rw lv at (kidB-step v (new d j) (q d j) (λ e. pq d j g l (ap kind (sym lv) ∙ e) .1))
+        go : (c : Bool) → childB (cond c (v ++ new d j ∷ []) v) ≡ cond (cond c (isEven (kind (phase d (length w)))) false) (childB v ++ (q d j ⊕ new d j) ∷ []) (childB v)
+        go true = rw lv at (childB-step v (new d j) (q d j) (λ e. pq d j g l (ap kind (sym lv) ∙ e) .1))
         go false = refl
 
-    pub pre-step : (d i : ℕ) → d ≤ D → i < 2 ^ d → pre d (w ++ b ∷ []) i ≡ cond (moves d (length w)) (pre d w i ++ new d i ∷ []) (pre d w i)
-    pre-step zero i g h = unfold node new in refl
-    pre-step (suc d) i g h = by-child (Grows (suc d)) d
-        (λ j l. grows-even d j g l (pre-step d j (omega arith) l)) (λ j l. grows-odd d j g l (pre-step d j (omega arith) l)) i h
+    pub nodePrefix-step : (d i : ℕ) → d ≤ D → i < 2 ^ d → nodePrefix d (w ++ b ∷ []) i ≡ cond (moves d (length w)) (nodePrefix d w i ++ new d i ∷ []) (nodePrefix d w i)
+    nodePrefix-step zero i g h = unfold node new in refl
+    nodePrefix-step (suc d) i g h = by-child (Grows (suc d)) d
+        (λ j l. grows-even d j g l (nodePrefix-step d j (omega arith) l)) (λ j l. grows-odd d j g l (nodePrefix-step d j (omega arith) l)) i h
 
 -- ---- lengths
 down-le : (n k : ℕ) → n ≤ 2 * k → down n ≤ k
@@ -373,10 +339,10 @@ none-not-even e = let z : _≡_ {A = ℕ} 0 1 = ap num e in omega arith
     num odd = 0
     num even = 1
 
-pub pre-nil : (d i : ℕ) → i < 2 ^ d → pre d [] i ≡ []
-pre-nil zero i h = unfold node in refl
-pre-nil (suc d) i h = by-child (λ i. pre (suc d) [] i ≡ []) d
-    (λ j l. node-even kidA kidB d [] j l ∙ ap kidA (pre-nil d j l)) (λ j l. node-odd kidA kidB d [] j ∙ ap kidB (pre-nil d j l)) i h
+pub nodePrefix-nil : (d i : ℕ) → i < 2 ^ d → nodePrefix d [] i ≡ []
+nodePrefix-nil zero i h = unfold node in refl
+nodePrefix-nil (suc d) i h = by-child (λ i. nodePrefix (suc d) [] i ≡ []) d
+    (λ j l. node-even childA childB d [] j l ∙ ap childA (nodePrefix-nil d j l)) (λ j l. node-odd childA childB d [] j ∙ ap childB (nodePrefix-nil d j l)) i h
 
 -- ---- closed forms: a layer's phase is (n + 1) / 2 ^ d - 1, and a layer moves where its phase does
 half-pred : (q : ℕ) → (q - 1 - 1) / 2 ≡ q / 2 - 1

@@ -12,7 +12,7 @@ use lib.Signed.{leZ}
 use Rattle.spec.specs.Transform.{transform}
 use Rattle.spec.specs.Score.{signed, correlation, maxℤ, largest, score}
 use Rattle.laws.specs.Cost.{bitCost, wordCost, magnitude, leastCost, cost}
-use Rattle.laws.specs.Layer.{length-transform, cost-empty}
+use Rattle.laws.specs.Layer.{length-transform}
 
 -- ---- differences of naturals
 

@@ -1,19 +1,19 @@
 -- Windows: the costs of a node's prefix with the next few bits, and the rules between the layers.
 use mathlib.Core.Path.{_≡_, refl, sym, ap, ap₂, subst, _∙_}
-use mathlib.Core.Bool.{Bool, true, false, not, cond}
-use mathlib.Core.List.{List, [], _∷_, _++_, append-nil, append-assoc}
+use mathlib.Core.Bool.{Bool, true, false, not}
+use mathlib.Core.List.{List, [], _∷_, _++_, append-assoc}
 use Prim.Native.Nat.{ℕ, zero, suc, _+_, _-_, _*_, _/_, _%_, _^_, _<_, _≤_, min}
 use native.Mathlib.Omega.{arith}
 use native.Mathlib.Nat.{mod-eq-of-lt, div-div-eq-div-mul}
 use lib.ListN.{length, length-append, take}
-use lib.Seq.{take-all, take-append-le, take-nil}
-use lib.IntN.{ℤ, pos, negsuc}
-use lib.Pow.{pow-pos, pow-mono}
+use lib.Seq.{take-all, take-append-le}
+use lib.IntN.{ℤ}
+use lib.Pow.{pow-mono}
 use lib.Dec.{T, ltb, ltb→lt, nltb→le}
-use Rattle.spec.specs.Bits.{_⊕_, flip}
+use Rattle.spec.specs.Bits.{_⊕_}
 use Rattle.spec.specs.Transform.{inputA, inputB, evens, odds, transform}
 use Rattle.laws.specs.Cost.{last, wordCost, leastCost, cost}
-use Rattle.laws.specs.Layer.{Odd, odd-append, inputA-append, inputB-append, last-snoc, least, half, length-inputA, length-inputB, length-odd, half-length, layer, layer-full}
+use Rattle.laws.specs.Layer.{Odd, odd-append, inputA-append, inputB-append, least, half, length-inputA, length-inputB, length-odd, half-length, layer, layer-full}
 use Rattle.laws.specs.Entries.{cost-step}
 
 -- ---- a window: what comes after v, cut at the word's end

@@ -1,6 +1,6 @@
 -- A code, its frozen map, and the words of it: 01, "Code and transform".
-use mathlib.Core.Bool.{Bool, true, false, _||_}
-use mathlib.Core.List.{List, [], _∷_, _++_}
+use mathlib.Core.Bool.{Bool, true, false}
+use mathlib.Core.List.{List, [], _∷_}
 use Prim.Native.Nat.{ℕ, zero, suc, _+_, _/_, _^_}
 use lib.ListN.{take}
 use Rattle.spec.specs.Bits.{unpacked}

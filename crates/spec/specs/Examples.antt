@@ -1,7 +1,7 @@
 -- The starred examples of document 01, as one table: what the definitions give beside what 01 states. n = 4 unless said.
 use mathlib.Core.Path.{_≡_, refl}
-use mathlib.Core.List.{List, [], _∷_, _++_, map}
-use Prim.Native.Nat.{ℕ, zero, suc}
+use mathlib.Core.List.{List, [], _∷_, map}
+use Prim.Native.Nat.{ℕ}
 use lib.IntN.{ℤ, pos, negsuc}
 use Rattle.spec.specs.Bits.{bitsOf, packed, unpacked}
 use Rattle.spec.specs.Transform.{transform, inverse, tableEntry}

@@ -1,13 +1,13 @@
 -- What each call answers, and what every lent slice then holds, on refusal too. A refused call gives the number alone and leaves
 -- all lent memory as before.
 use mathlib.Core.List.{List, [], _∷_, _++_, map}
-use Prim.Native.Nat.{ℕ, zero, suc, _-_}
+use Prim.Native.Nat.{ℕ, _-_}
 use lib.ListN.{length, replicate}
 use lib.IntN.{ℤ, pos}
 use Rattle.spec.specs.Code.{Code, size, codeTransform, encoded, extracted}
 use Rattle.spec.specs.Decoder.{Row, rows}
 use Rattle.spec.specs.Faults.{first, settled}
-use Rattle.spec.specs.Refusals.{Room, encodeFaults, extractFaults, decodeFaults}
+use Rattle.spec.specs.Refusals.{Room, room, encodeFaults, extractFaults, decodeFaults}
 use Rattle.spec.specs.Record.{exponent, listSize, stopPosition, frameNumber, recordMap, recordSoft, shapeFaults, fieldFaults}
 
 -- a list at the front of a slice of n places, and z behind it
@@ -23,14 +23,14 @@ abbrev pub written : ℕ → List ℕ → Written
 written k out = record { number = k; output = out }
 
 unfoldable pub encodeRefusal : Code → List ℕ → ℕ → ℕ
-encodeRefusal c payload room = first (encodeFaults c payload room)
+encodeRefusal c payload lent = first (encodeFaults c payload lent)
 
 unfoldable pub encodeOutcome : Code → List ℕ → List ℕ → Written
 encodeOutcome c payload out =
     settled (encodeRefusal c payload (length out)) (λ k. written k out) (written 0 (padded 0 (length out) (encoded c payload)))
 
 unfoldable pub extractRefusal : Code → List ℕ → ℕ → ℕ
-extractRefusal c word room = first (extractFaults c word room)
+extractRefusal c word lent = first (extractFaults c word lent)
 
 unfoldable pub extractOutcome : Code → List ℕ → List ℕ → Written
 extractOutcome c word out =
@@ -51,13 +51,7 @@ abbrev pub lent : List ℕ → List ℕ → List ℕ → List ℕ → List ℤ �
 lent a b i w s = record { numbers = a; bytes = b; inputs = i; words = w; scores = s }
 
 abbrev pub roomOf : Lent → Room
-roomOf x = record {
-  numbers = length (x .numbers);
-  bytes = length (x .bytes);
-  inputs = length (x .inputs);
-  words = length (x .words);
-  scores = length (x .scores);
-}
+roomOf x = room (length (x .numbers)) (length (x .bytes)) (length (x .inputs)) (length (x .words)) (length (x .scores))
 
 pub record Decoding : Type 0 where
   pub answer : Answer
@@ -71,20 +65,20 @@ concat [] = []
 concat (x ∷ xs) = x ++ concat xs
 
 unfoldable pub decodeRefusal : Code → ℕ → ℕ → List ℤ → Room → ℕ
-decodeRefusal c l p soft room = first (decodeFaults c l p soft room)
+decodeRefusal c l p soft r = first (decodeFaults c l p soft r)
 
--- rows in slices as long as those of `room`: the tables are 0, and the outputs hold the rows by rank and then 0
+-- rows in slices of these lengths: the tables are 0, and the outputs hold the rows by rank and then 0
 abbrev pub decodedRows : Room → List Row → Decoding
-decodedRows room rs = decoding (rowCount (length rs)) (lent
-    (replicate (room .numbers) 0)
-    (replicate (room .bytes) 0)
-    (padded 0 (room .inputs) (concat (map (λ (r : Row). r .input) rs)))
-    (padded 0 (room .words) (concat (map (λ (r : Row). r .word) rs)))
-    (padded (pos 0) (room .scores) (map (λ (r : Row). r .score) rs)))
+decodedRows r rs = decoding (rowCount (length rs)) (lent
+    (replicate (r .numbers) 0)
+    (replicate (r .bytes) 0)
+    (padded 0 (r .inputs) (concat (map (λ (x : Row). x .input) rs)))
+    (padded 0 (r .words) (concat (map (λ (x : Row). x .word) rs)))
+    (padded (pos 0) (r .scores) (map (λ (x : Row). x .score) rs)))
 
 -- a call that is served holds the rows of the paper decoder
 unfoldable pub decodeServed : Code → ℕ → ℕ → List ℤ → Room → Decoding
-decodeServed c l p soft room = decodedRows room (rows (codeTransform c) c soft l p)
+decodeServed c l p soft r = decodedRows r (rows (codeTransform c) c soft l p)
 
 unfoldable pub decodeOutcome : Code → ℕ → ℕ → List ℤ → Lent → Decoding
 decodeOutcome c l p soft x =

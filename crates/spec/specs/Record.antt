@@ -1,6 +1,6 @@
 -- The job record, as a function on its bytes: 01, "Job record". Low byte first throughout.
-use mathlib.Core.Bool.{Bool, not, cond}
-use mathlib.Core.List.{List, [], _∷_, _++_}
+use mathlib.Core.Bool.{not, cond}
+use mathlib.Core.List.{List, [], _∷_}
 use Prim.Native.Nat.{ℕ, zero, suc, _+_, _*_, _/_, _%_, _^_}
 use lib.ListN.{length, take, drop, getD}
 use lib.Dec.{ltb, eqb}

@@ -7,7 +7,7 @@ use lib.Dec.{ltb, eqb}
 use lib.IntN.{ℤ, natAbs}
 use Rattle.spec.specs.Bits.{unpacked}
 use Rattle.spec.specs.Code.{Code, size, mapBytes, frozen, payloadSize, broken, inputOf}
-use Rattle.spec.specs.Faults.{Fault, fault, first, outside, some}
+use Rattle.spec.specs.Faults.{Fault, fault, outside, some}
 
 -- a map bit is set at or past n
 unfoldable pub pastEnd : ℕ → List ℕ → Bool
@@ -25,7 +25,7 @@ codeFaults c =
     ∷ fault 3 (pastEnd (size c) (c .map))
     ∷ []
 
--- a slice that must be n long, a list of which all must be bits, and an output of `room` places that must hold n
+-- a slice that must be n long, a list of which all must be bits, and an output of so many places that must hold n
 abbrev pub lengthFault : ℕ → ℕ → Fault
 lengthFault n given = fault 6 (not (eqb given n))
 
@@ -33,21 +33,21 @@ abbrev pub bitFault : List ℕ → Fault
 bitFault xs = fault 11 (some (ltb 1) xs)
 
 abbrev pub roomFault : ℕ → ℕ → Fault
-roomFault n room = fault 10 (ltb room n)
+roomFault n lent = fault 10 (ltb lent n)
 
 -- the encoder: 1, 2, 3, 6, 11, 10
 abbrev pub encodeFaults : Code → List ℕ → ℕ → List Fault
-encodeFaults c payload room =
-    codeFaults c ++ (lengthFault (payloadSize c) (length payload) ∷ bitFault payload ∷ roomFault (size c) room ∷ [])
+encodeFaults c payload lent =
+    codeFaults c ++ (lengthFault (payloadSize c) (length payload) ∷ bitFault payload ∷ roomFault (size c) lent ∷ [])
 
 -- the extractor: 1, 2, 3, 6, 11, 12, 10
 abbrev pub extractFaults : Code → List ℕ → ℕ → List Fault
-extractFaults c word room =
+extractFaults c word lent =
     codeFaults c
     ++ (lengthFault (size c) (length word)
     ∷ bitFault word
     ∷ fault 12 (broken (frozen c) (inputOf c word))
-    ∷ roomFault (payloadSize c) room
+    ∷ roomFault (payloadSize c) lent
     ∷ [])
 
 -- 4 to 7: list size l, stop position p and soft values for n positions
@@ -74,16 +74,19 @@ pub record Room : Type 0 where
   pub words : ℕ
   pub scores : ℕ
 
+abbrev pub room : ℕ → ℕ → ℕ → ℕ → ℕ → Room
+room numbers bytes inputs words scores = record { numbers = numbers; bytes = bytes; inputs = inputs; words = words; scores = scores }
+
 -- 8 to 10
 abbrev pub tableFaults : ℕ → ℕ → Room → List Fault
-tableFaults n l room =
-    fault 8 (ltb (room .numbers) (numberRoom n l))
-    ∷ fault 9 (ltb (room .bytes) (byteRoom n l))
-    ∷ roomFault (n * l) (room .inputs)
-    ∷ roomFault (n * l) (room .words)
-    ∷ roomFault l (room .scores)
+tableFaults n l r =
+    fault 8 (ltb (r .numbers) (numberRoom n l))
+    ∷ fault 9 (ltb (r .bytes) (byteRoom n l))
+    ∷ roomFault (n * l) (r .inputs)
+    ∷ roomFault (n * l) (r .words)
+    ∷ roomFault l (r .scores)
     ∷ []
 
 -- the decoder: 1 to 10 in turn
 abbrev pub decodeFaults : Code → ℕ → ℕ → List ℤ → Room → List Fault
-decodeFaults c l p soft room = codeFaults c ++ (runFaults (size c) l p soft ++ tableFaults (size c) l room)
+decodeFaults c l p soft r = codeFaults c ++ (runFaults (size c) l p soft ++ tableFaults (size c) l r)

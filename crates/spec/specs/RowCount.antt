@@ -1,8 +1,8 @@
 -- The row count at stop position p is min(l, 2 ^ q), where q positions below p are clear.
-use mathlib.Core.Path.{_≡_, refl, sym, ap, ap₂, subst, _∙_}
+use mathlib.Core.Path.{_≡_, refl, sym, ap, _∙_}
 use mathlib.Core.Bool.{Bool, true, false, cond}
-use mathlib.Core.List.{List, [], _∷_, _++_, map}
-use Prim.Native.Nat.{ℕ, zero, suc, _+_, _-_, _*_, _/_, _^_, _≤_, _<_, min}
+use mathlib.Core.List.{List, [], _∷_, map}
+use Prim.Native.Nat.{ℕ, zero, suc, _-_, _*_, _/_, _^_, _≤_, _<_, min}
 use native.Mathlib.Omega.{arith}
 use native.Mathlib.Nat.{pow-suc}
 use lib.ListN.{length, take, getD, length-take, length-map, length-append}
@@ -71,7 +71,7 @@ module _ (T : List ℕ → List ℕ) (c : Code) (y : List ℤ) (l : ℕ) (l≥1 
       ∙ ap (λ (q : ℕ). min l (2 ^ q)) (sym (clear-suc (frozen c) i h))
 
 -- ---- an accepted map has a flag for each of the n positions
-length-bitsOf : (d n : ℕ) → length (bitsOf d n) ≡ d
+pub length-bitsOf : (d n : ℕ) → length (bitsOf d n) ≡ d
 unfolding bitsOf
 length-bitsOf zero n = refl
 length-bitsOf (suc d) n = ap suc (length-bitsOf d (n / 2))

@@ -1,5 +1,5 @@
 -- The transform of a convolutional polar code: 01, "Code and transform"; source document 002, (2) and (4).
-use mathlib.Core.List.{List, [], _∷_, _++_}
+use mathlib.Core.List.{List, [], _∷_}
 use Prim.Native.Nat.{ℕ, zero, suc}
 use Rattle.spec.specs.Bits.{_⊕_, bitsOf, packed}
 

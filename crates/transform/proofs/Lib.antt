@@ -1,0 +1,4 @@
+mod EveryEntry
+mod Halves
+mod Passes
+mod ShortWords

@@ -1,0 +1,199 @@
+/*
+ * Compares the encoder and the extractor of the library with the reference ones,
+ * at every m.
+ *
+ *   compare_codec [seed [rounds]]
+ *
+ * A run with the same seed and rounds makes the same calls.
+ */
+#include "codec_calls.h"
+#include "codec_check.h"
+#include "draw.h"
+#include "reference_codec.h"
+
+#include <stdio.h>
+#include <stdlib.h>
+#include <string.h>
+
+/* ---- the examples of the rules, whose outputs are written here */
+
+static const struct example {
+    enum call_kind kind;
+    uint32_t m;
+    const char *map;
+    size_t map_len;
+    const char *in, *out; /* a digit for each byte */
+    size_t out_len;
+    uint32_t answer;
+} examples[] = {
+    {ENCODE, 2, "\x00", 1, "1000", "1000", 4, 0},
+    {ENCODE, 2, "\x00", 1, "0100", "1100", 4, 0},
+    {ENCODE, 2, "\x00", 1, "0010", "0110", 4, 0},
+    {ENCODE, 2, "\x00", 1, "0001", "1111", 4, 0},
+    {ENCODE, 3, "\x00", 1, "00000010", "10010110", 8, 0},
+    {ENCODE, 3, "\x00", 1, "00000001", "11111111", 8, 0},
+    {ENCODE, 2, "\x03", 1, "11", "1001", 4, 0},
+    {EXTRACT, 2, "\x03", 1, "1001", "11", 2, 0},
+    {ENCODE, 2, "\x03", 1, "11", "10010000", 8, 0},
+    {EXTRACT, 2, "\x03", 1, "1001", "110000", 6, 0},
+    {ENCODE, 4, "\xff\xff", 2, "", "0000000000000000", 16, 0},
+    {EXTRACT, 4, "\xff\xff", 2, "0000000000000000", "", 0, 0},
+    {ENCODE, 1, "\x00", 1, "00", "", 4, 1},
+    {ENCODE, 11, "", 0, "", "", 0, 1},
+    {ENCODE, 4, "\xff", 1, "", "", 16, 2},
+    {ENCODE, 2, "\x10", 1, "0000", "", 4, 3},
+    {ENCODE, 2, "\x03", 1, "000", "", 4, 6},
+    {ENCODE, 2, "\x03", 1, "00", "", 3, 10},
+    {ENCODE, 2, "\x03", 1, "20", "", 4, 11},
+    {EXTRACT, 2, "\x03", 1, "1000", "", 2, 12},
+};
+
+static void run_examples(void)
+{
+    for (size_t i = 0; i < sizeof examples / sizeof examples[0]; i++) {
+        const struct example *e = &examples[i];
+        struct call c = {.kind = e->kind, .m = e->m, .map_len = e->map_len, .in_len = strlen(e->in),
+                         .out_len = e->out_len, .answer = e->answer};
+        memcpy(c.map, e->map, e->map_len);
+        for (size_t j = 0; j < c.in_len; j++)
+            c.in[j] = (uint8_t)(e->in[j] - '0');
+        check_call(&c, e->m < MIN_M ? MIN_M : e->m > MAX_M ? MAX_M : e->m);
+        for (size_t j = 0; e->out[j] != 0; j++)
+            if (check_output()[j] != e->out[j] - '0')
+                check_fail(&c, "an example of the rules differs");
+    }
+}
+
+/* ---- both sides of every limit */
+
+static void run_as(struct call *c, uint32_t sizes_of, uint32_t answer)
+{
+    c->answer = answer;
+    check_call(c, sizes_of);
+}
+
+static void try_lengths(enum call_kind kind, uint32_t m)
+{
+    struct call c;
+    for (size_t less = 0; less <= 2; less++) { /* one more, right, one less */
+        call_good(&c, kind, m, FROZEN_SOME);
+        c.map_len = c.map_len + 1 - less;
+        run_as(&c, m, less == 1 ? 0 : 2);
+        call_good(&c, kind, m, FROZEN_SOME);
+        c.in_len = c.in_len + 1 - less;
+        run_as(&c, m, less == 1 ? 0 : 6);
+        call_good(&c, kind, m, FROZEN_SOME);
+        c.out_len = call_need(&c) + 1 - less;
+        run_as(&c, m, less == 2 ? 10 : 0);
+    }
+}
+
+/* With nothing frozen every word is a code word. */
+static void try_bytes(enum call_kind kind, uint32_t m)
+{
+    struct call c;
+    for (size_t i = 0; i < (size_t)1 << m; i++) {
+        for (unsigned value = 0; value <= 3; value++) {
+            call_good(&c, kind, m, FROZEN_NONE);
+            c.in[i] = (uint8_t)(value < 3 ? value : 3 + draw_below(253));
+            run_as(&c, m, value < 2 ? 0 : 11);
+        }
+    }
+}
+
+static void try_maps_of_4(enum call_kind kind)
+{
+    for (unsigned bits = 0; bits < 256; bits++) {
+        struct call c;
+        call_freeze(&c, 2, FROZEN_NONE);
+        c.map[0] = bits % 16;
+        call_fill(&c, kind);
+        c.map[0] = (uint8_t)bits;
+        run_as(&c, 2, bits < 16 ? 0 : 3);
+    }
+}
+
+static void try_words(uint32_t m)
+{
+    struct call good, c;
+    call_good(&good, EXTRACT, m, FROZEN_SOME);
+    for (size_t i = 0; i < (size_t)1 << m; i++) {
+        c = good;
+        call_flip_input(&c, i);
+        run_as(&c, m, reference_frozen(c.map, i) ? 12 : 0);
+    }
+}
+
+static void try_limits(enum call_kind kind, uint32_t m)
+{
+    for (size_t which = 0; which < CALL_BAD_MS; which++) {
+        struct call c;
+        call_good(&c, kind, m, FROZEN_SOME);
+        c.m = call_bad_m(m, which);
+        run_as(&c, m, 1);
+    }
+    try_lengths(kind, m);
+    try_bytes(kind, m);
+    if (m == 2)
+        try_maps_of_4(kind);
+    if (kind == EXTRACT)
+        try_words(m);
+}
+
+/* ---- random calls */
+
+/* Every set of faults, the empty one too. */
+static void try_faults(enum call_kind kind, uint32_t m, unsigned long rounds)
+{
+    unsigned sets = kind == ENCODE ? 1u << 6 : 1u << 7;
+    for (unsigned long round = 0; round < rounds; round++) {
+        for (unsigned faults = 0; faults < sets; faults++) {
+            struct call c;
+            call_good(&c, kind, m, round % 4 == 0 ? (enum frozen)draw_below(FROZEN_KINDS) : FROZEN_SOME);
+            call_spoil(&c, faults);
+            check_call(&c, m);
+        }
+    }
+}
+
+/* A call that is served, and then the other call on what it gave. */
+static void try_round_trips(enum call_kind kind, uint32_t m, unsigned long rounds)
+{
+    for (unsigned long round = 0; round < rounds; round++) {
+        struct call there, back;
+        call_good(&there, kind, m, (enum frozen)(round % FROZEN_KINDS));
+        check_call(&there, m);
+        back = there;
+        call_fill(&back, kind == ENCODE ? EXTRACT : ENCODE);
+        memcpy(back.in, check_output(), back.in_len);
+        check_call(&back, m);
+        if (memcmp(check_output(), there.in, there.in_len) != 0)
+            check_fail(&back, "a round trip does not give back what went in");
+    }
+}
+
+int main(int argc, char **argv)
+{
+    unsigned long seed = 1, rounds = 40;
+    if (argc > 1)
+        seed = strtoul(argv[1], NULL, 10);
+    if (argc > 2)
+        rounds = strtoul(argv[2], NULL, 10);
+    printf("compare_codec: seed %lu, rounds %lu\n", seed, rounds);
+    draw_seed(seed);
+    check_open(seed);
+    run_examples();
+    for (uint32_t m = MIN_M; m <= MAX_M; m++) {
+        for (int kind = 0; kind < CALL_KINDS; kind++) {
+            try_limits((enum call_kind)kind, m);
+            try_faults((enum call_kind)kind, m, rounds);
+            try_round_trips((enum call_kind)kind, m, 25 * rounds);
+        }
+    }
+    if (!check_report()) {
+        printf("compare_codec: FAILED: a refusal or an accepted call was never reached (seed %lu)\n", seed);
+        return 1;
+    }
+    printf("compare_codec: %lu calls agree (seed %lu)\n", check_count(), seed);
+    return 0;
+}
