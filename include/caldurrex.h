@@ -1,5 +1,5 @@
 /*
- * Caldurrex: encoder and extractor for convolutional polar codes.
+ * Caldurrex: encoder, extractor and list decoder for convolutional polar codes.
  *
  * A code has n = 2^m positions, m from 2 to 10, and a frozen map of ceil(n/8)
  * bytes: bit i mod 8 of byte i div 8, counted from the low end, is 1 where
@@ -10,9 +10,10 @@
  * frozen, in rising order, and 0 at each frozen one. The code word is its
  * transform. Payload and word are bytes of value 0 or 1, one for each bit.
  *
- * A slice is a pointer and the number of its bytes. Each slice must be real
- * memory of that length and must not overlap another one of the same call. An
- * empty slice, too, has a pointer that is not null.
+ * A slice is a pointer and the number of its elements: bytes, or numbers of 16 or
+ * 32 bits where the pointer is to such. Each slice must be real memory of that
+ * length and must not overlap another one of the same call. An empty slice, too,
+ * has a pointer that is not null.
  */
 #ifndef CALDURREX_H
 #define CALDURREX_H
@@ -29,8 +30,13 @@ enum caldurrex_refusal {
     CALDURREX_BAD_M = 1,            /* m outside 2..10 */
     CALDURREX_BAD_MAP_LENGTH = 2,   /* frozen map not ceil(n/8) bytes */
     CALDURREX_BAD_MAP_BIT = 3,      /* map bit set past n */
-    CALDURREX_BAD_INPUT_LENGTH = 6, /* payload not k long, or word not n long */
-    CALDURREX_SHORT_OUTPUT = 10,    /* output too short for the word or payload */
+    CALDURREX_BAD_LIST_SIZE = 4,    /* list size outside 1..32 */
+    CALDURREX_BAD_STOP = 5,         /* stop position above n */
+    CALDURREX_BAD_INPUT_LENGTH = 6, /* payload not k long; word or soft values not n long */
+    CALDURREX_BAD_SOFT_VALUE = 7,   /* soft value outside -2047..2047 */
+    CALDURREX_SHORT_NUMBERS = 8,    /* number tables too short */
+    CALDURREX_SHORT_BYTES = 9,      /* byte tables too short */
+    CALDURREX_SHORT_OUTPUT = 10,    /* an output too short */
     CALDURREX_NOT_A_BIT = 11,       /* payload or word byte above 1 */
     CALDURREX_NOT_A_CODE_WORD = 12  /* a frozen input bit of the word is 1 */
 };
@@ -81,6 +87,67 @@ uint32_t caldurrex_encode(uint32_t m, const uint8_t *map, size_t map_len,
 uint32_t caldurrex_extract(uint32_t m, const uint8_t *map, size_t map_len,
                            const uint8_t *word, size_t word_len,
                            uint8_t *payload, size_t payload_len);
+
+/* The least lengths of the slices lent to the decoder, for n positions and list
+ * size l: numbers, bytes, and inputs or words. */
+#define CALDURREX_NUMBERS(n, l) ((size_t)32 * (n) * (l))
+#define CALDURREX_BYTES(n, l) (((size_t)4 * (n) + 256) * (l))
+#define CALDURREX_ROWS(n, l) ((size_t)(n) * (l))
+
+/*
+ * Decodes a block of soft values with a list of list_size prefixes.
+ *
+ * A soft value is a number from -2047 to 2047; a positive one favours bit 0. The
+ * correlation of a word is the sum of the soft values, each negated where the word
+ * has a 1. The score of a prefix is the largest correlation of a transform over all
+ * inputs that begin with the prefix, whatever is frozen behind it. The list begins
+ * as the empty prefix. Position by position, each prefix goes on with 0 where the
+ * position is frozen and with both bits where it is not, and then the list_size
+ * best stay: higher score first, then the one with 0 at the first place where two
+ * differ. After stop positions the list in this order is the result, rank 0 first.
+ *
+ *   map        the frozen map, ceil(n/8) bytes
+ *   list_size  l, 1 to 32
+ *   stop       0 to n; n decodes whole words
+ *   soft       n soft values
+ *   numbers    tables for the call's own use, at least 32*n*l words of 32 bits;
+ *              all 0 up to numbers_len after an accepted call
+ *   bytes      tables for the call's own use, at least (4*n + 256)*l bytes; all 0
+ *              up to bytes_len after an accepted call
+ *   inputs     at least l*n bytes; row r, from byte r*n on, is the prefix of rank r
+ *              and then 0 from position stop on, n bytes of value 0 or 1
+ *   words      at least l*n bytes; row r is the transform of row r of inputs
+ *   scores     at least l numbers; number r is the score of the prefix of rank r
+ *
+ * All behind the last row, up to inputs_len, words_len and scores_len, becomes 0.
+ * With q clear positions below stop there are min(l, 2^q) rows. What the tables and
+ * the outputs hold before the call does not matter.
+ *
+ * Returns the number of rows, which is at least 1, or minus the first of these that
+ * applies, in this order:
+ *
+ *   1   CALDURREX_BAD_M             m outside 2..10
+ *   2   CALDURREX_BAD_MAP_LENGTH    map_len is not ceil(n/8)
+ *   3   CALDURREX_BAD_MAP_BIT       a map bit past n is set
+ *   4   CALDURREX_BAD_LIST_SIZE     list_size outside 1..32
+ *   5   CALDURREX_BAD_STOP          stop above n
+ *   6   CALDURREX_BAD_INPUT_LENGTH  soft_len is not n
+ *   7   CALDURREX_BAD_SOFT_VALUE    a soft value outside -2047..2047
+ *   8   CALDURREX_SHORT_NUMBERS     numbers_len is below 32*n*l
+ *   9   CALDURREX_SHORT_BYTES       bytes_len is below (4*n + 256)*l
+ *   10  CALDURREX_SHORT_OUTPUT      inputs_len or words_len is below l*n, or
+ *                                   scores_len is below l
+ *
+ * A refused call writes nowhere.
+ */
+int32_t caldurrex_decode(uint32_t m, const uint8_t *map, size_t map_len,
+                         uint32_t list_size, uint32_t stop,
+                         const int16_t *soft, size_t soft_len,
+                         uint32_t *numbers, size_t numbers_len,
+                         uint8_t *bytes, size_t bytes_len,
+                         uint8_t *inputs, size_t inputs_len,
+                         uint8_t *words, size_t words_len,
+                         int32_t *scores, size_t scores_len);
 
 #ifdef __cplusplus
 }

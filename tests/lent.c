@@ -34,11 +34,16 @@ void lent_open(struct lent *s, const char *name, size_t room_len)
 
 void lent_place(struct lent *s, const uint8_t *bytes, size_t len)
 {
+    lent_place_aligned(s, bytes, len, 1);
+}
+
+void lent_place_aligned(struct lent *s, const uint8_t *bytes, size_t len, size_t unit)
+{
     if (len > s->room_len) {
         fprintf(stderr, "%s: no room for a slice of %zu bytes\n", s->name, len);
         exit(2);
     }
-    size_t places[3] = {0, s->room_len - len, draw_below(s->room_len - len + 1)};
+    size_t places[3] = {0, s->room_len - len, unit * draw_below((s->room_len - len) / unit + 1)};
     s->at = s->room + places[draw_below(3)];
     s->len = len;
     draw_bytes(s->room, s->room_len);

@@ -26,6 +26,9 @@ void lent_open(struct lent *s, const char *name, size_t room_len);
  * the slice with bytes (random ones too if bytes is null). */
 void lent_place(struct lent *s, const uint8_t *bytes, size_t len);
 
+/* The same for elements of unit bytes each: the place is a multiple of unit. */
+void lent_place_aligned(struct lent *s, const uint8_t *bytes, size_t len, size_t unit);
+
 /* 1 if the slice holds want (what it held before the call if want is null) and
  * the guard zones are unchanged; otherwise says what differs and gives 0. */
 int lent_holds(const struct lent *s, const uint8_t *want);

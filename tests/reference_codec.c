@@ -44,8 +44,7 @@ size_t reference_clear(const uint8_t *map, size_t n)
     return k;
 }
 
-/* The refusals 1, 2 and 3, which both calls test first; 0 if none applies. */
-static uint32_t code_refusal(uint32_t m, const uint8_t *map, size_t map_len)
+uint32_t reference_code_refusal(uint32_t m, const uint8_t *map, size_t map_len)
 {
     if (m < 2 || m > REFERENCE_MAX_M)
         return 1;
@@ -72,7 +71,7 @@ uint32_t reference_encode(uint32_t m, const uint8_t *map, size_t map_len,
                           const uint8_t *payload, size_t payload_len,
                           uint8_t *word, size_t word_len)
 {
-    uint32_t refusal = code_refusal(m, map, map_len);
+    uint32_t refusal = reference_code_refusal(m, map, map_len);
     if (refusal != 0)
         return refusal;
     size_t n = (size_t)1 << m;
@@ -182,7 +181,7 @@ uint32_t reference_extract(uint32_t m, const uint8_t *map, size_t map_len,
                            const uint8_t *word, size_t word_len,
                            uint8_t *payload, size_t payload_len)
 {
-    uint32_t refusal = code_refusal(m, map, map_len);
+    uint32_t refusal = reference_code_refusal(m, map, map_len);
     if (refusal != 0)
         return refusal;
     size_t n = (size_t)1 << m;

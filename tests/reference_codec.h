@@ -21,6 +21,9 @@ int reference_frozen(const uint8_t *map, size_t i);
 /* k: the number of the n positions that are not frozen. */
 size_t reference_clear(const uint8_t *map, size_t n);
 
+/* The refusals 1, 2 and 3, which every call on a code tests first; 0 if none applies. */
+uint32_t reference_code_refusal(uint32_t m, const uint8_t *map, size_t map_len);
+
 uint32_t reference_encode(uint32_t m, const uint8_t *map, size_t map_len,
                           const uint8_t *payload, size_t payload_len,
                           uint8_t *word, size_t word_len);

@@ -1,7 +1,10 @@
 // The calls for a host written in C. A slice is a pointer and a length in elements.
 ghost use mathlib.Core.Path.{_≡_};
 ghost use Rattle.spec.specs.Code.{code};
-ghost use Rattle.spec.specs.Outcome.{written, encodeOutcome, extractOutcome};
+ghost use Rattle.spec.specs.Outcome.{written, encodeOutcome, extractOutcome, lent, decodeOutcome};
+ghost use Rattle.decoder.specs.Answers.{answerOf};
+ghost use Rattle.caldurrex.specs.Numbers.{Small, numberOf, returned, faced};
+use decoder::Decoded;
 
 #[no_mangle]
 pub extern "C" fn caldurrex_encode(m: u32, map: &[u8], payload: &[u8], word: &mut [u8]) -> u32
@@ -17,4 +20,46 @@ pub extern "C" fn caldurrex_extract(m: u32, map: &[u8], word: &[u8], payload: &m
         ≡ extractOutcome (code m (now (map .entry))) (now (word .entry)) (now (payload .entry)) ⌝ }
 {
     codec::extract(m, map, word, payload)
+}
+
+// The answer as one number: the rows, or minus the refusal.
+fn number_of(d: Decoded) -> i32
+    requires { ⌜ Small (answerOf d) ⌝ }
+    ensures { λ r. ⌜ r ≡ numberOf (answerOf d) ⌝ }
+{
+    match d {
+        Decoded::Rows(r) => r as i32,
+        Decoded::Refused(k) => -(k as i32),
+    }
+}
+
+#[no_mangle]
+pub extern "C" fn caldurrex_decode(
+    m: u32,
+    map: &[u8],
+    list: u32,
+    stop: u32,
+    soft: &[i16],
+    numbers: &mut [u32],
+    bytes: &mut [u8],
+    inputs: &mut [u8],
+    words: &mut [u8],
+    scores: &mut [i32],
+) -> i32
+    ensures { λ r. ⌜ returned r (lent (now (numbers .exit)) (now (bytes .exit)) (now (inputs .exit)) (now (words .exit)) (now (scores .exit)))
+        ≡ faced (decodeOutcome (code m (now (map .entry))) list stop (now (soft .entry)) (lent (now (numbers .entry)) (now (bytes .entry)) (now (inputs .entry)) (now (words .entry)) (now (scores .entry)))) ⌝ }
+{
+    let d = decoder::decode(
+        m,
+        map,
+        list,
+        stop,
+        soft,
+        numbers,
+        bytes,
+        inputs,
+        words,
+        scores,
+    );
+    number_of(d)
 }

@@ -7,7 +7,7 @@ ghost use Rattle.spec.specs.Code.{clear, spread, gathered, broken};
 ghost use Rattle.laws.specs.MapBits.{flagsOf};
 
 // 1 where position i is frozen, 0 where it is clear.
-fn flag(map: &[u8], i: usize) -> u8
+pub fn flag(map: &[u8], i: usize) -> u8
     requires { ⌜ i < 8 * length (now map) ⌝ }
     ensures { λ r. ⌜ r ≡ getD (unpacked (now (map .entry))) i 0 ⌝ }
 {

@@ -10,3 +10,4 @@ pub use code::payload_size;
 pub use code::size;
 pub use encoder::encode;
 pub use extractor::extract;
+pub use flags::flag;

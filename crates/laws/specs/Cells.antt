@@ -290,7 +290,7 @@ blank f = record { costs = f; evenBit = 0; sumBit = 0; oddBit = 0 }
 abbrev pub lift0 : Cell → Cell → ℕ → ℕ
 lift0 ca cb = at4 (λ x₁ x₂ x₃ x₄. least (λ f. op4 (read3 none ca) (read3 none cb) x₁ x₂ x₃ x₄ f))
 
-blank-good : (m : ℕ) (y : List ℤ) (f : ℕ → ℕ) → ((x : ℕ) → x < 16 → f x ≡ at4 (W4 m y []) x) → Good m y [] (blank f)
+pub blank-good : (m : ℕ) (y : List ℤ) (f : ℕ → ℕ) → ((x : ℕ) → x < 16 → f x ≡ at4 (W4 m y []) x) → Good m y [] (blank f)
 blank-good m y f p = record { costs-are = p; even-is = refl; bits-are = λ e. absurd (none-not-even e) }
 
 lift0-good : (m : ℕ) (y : List ℤ) (ca cb : Cell) → 2 ≤ m → Good m (evens y) [] ca → Good m (odds y) [] cb → Good (suc m) y [] (blank (lift0 ca cb))

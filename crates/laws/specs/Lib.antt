@@ -13,3 +13,4 @@ pub mod FirstFault
 pub mod MapBits
 pub mod FrozenMap
 pub mod Accepted
+pub mod Soft

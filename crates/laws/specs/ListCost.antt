@@ -9,10 +9,12 @@ use lib.IntN.{ℤ}
 use lib.Dec.{T, ltb, leb, leb→le, le→leb, ltb→lt, lt→ltb, nleb→lt}
 use lib.Arith.{lt→nleb}
 use lib.Signed.{leZ}
+use Rattle.spec.specs.Bits.{Bits, nil}
 use Rattle.spec.specs.Transform.{transform}
 use Rattle.spec.specs.Code.{Code, size, frozen, codeTransform}
 use Rattle.spec.specs.Score.{score}
 use Rattle.spec.specs.Decoder.{insertBy, sortBy, lexBefore, ahead, continued, children, families, live, scoreOf}
+use Rattle.laws.specs.BitLaws.{bits-snoc}
 use Rattle.laws.specs.Cost.{cost, magnitude}
 use Rattle.laws.specs.ScoreCost.{leZ-sub, score-is}
 
@@ -117,3 +119,22 @@ module _ (c : Code) (y : List ℤ) (l : ℕ) (ey : length y ≡ size c) where
       (sort-same {P = Long (suc i)} (ahead (score (transform (c .m)) (2 ^ c .m) y)) (cheaper (cost (c .m) y))
       (λ v w p q. ahead-cheaper (c .m) y ey v w (omega (arith, p)) (omega (arith, q)))
       (family-long (codeTransform c) c y l i (live-long (codeTransform c) c y l i)))
+
+-- ---- and are words of bits
+pub continued-bits : (f : ℕ) (w : List ℕ) → Bits w → All Bits (continued f w)
+continued-bits zero w b = more (bits-snoc 0 b (omega arith)) (more (bits-snoc 1 b (omega arith)) none)
+continued-bits (suc f) w b = more (bits-snoc 0 b (omega arith)) none
+
+module _ (T : List ℕ → List ℕ) (c : Code) (y : List ℤ) (l : ℕ) where
+  pub live-bits : (i : ℕ) → All Bits (live T c y l i)
+  unfolding live children
+  live-bits zero = more nil none
+  live-bits (suc i) =
+      all-take l (all-sort (ahead (scoreOf T c y l))
+      (families-all (λ w. continued (getD (frozen c) i 0) w) (continued-bits (getD (frozen c) i 0)) (live-bits i)))
+
+-- at each rank
+pub all-at : {A : Type 0} {P : A → Type 0} (d : A) {xs : List A} → All P xs → (r : ℕ) → r < length xs → P (getD xs r d)
+all-at d none r h = absurd (omega arith)
+all-at d (more p a) zero h = p
+all-at d (more p a) (suc r) h = all-at d a r (omega arith)

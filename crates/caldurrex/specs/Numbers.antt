@@ -1,0 +1,77 @@
+-- The decoder's answer as one signed number, as a host written in C gets it.
+use mathlib.Core.Path.{_≡_, refl, sym, ap, subst, _∙_}
+use mathlib.Core.Bool.{Bool, true, false}
+use mathlib.Core.List.{List, [], _∷_}
+use Prim.Native.Nat.{ℕ, zero, suc, _≤_}
+use native.Mathlib.Omega.{arith}
+use lib.ListN.{length}
+use lib.IntN.{ℤ, pos, negℤ}
+use Rattle.spec.specs.Code.{Code, size, mapBytes, codeTransform}
+use Rattle.spec.specs.Decoder.{rows}
+use Rattle.spec.specs.Faults.{Fault, fault, first, settled}
+use Rattle.spec.specs.Refusals.{Room, decodeFaults}
+use Rattle.spec.specs.RowCount.{row-count}
+use Rattle.spec.specs.Outcome.{Answer, rowCount, refusedBy, Lent, roomOf, Decoding, decoding, decodedRows, decodeRefusal, decodeServed, decodeOutcome}
+use Rattle.laws.specs.FirstFault.{First, later, of-first, inside-of, same-of}
+use borrow.Author.Tests.{ltb-false}
+
+-- the rows, or minus the refusal number
+abbrev pub numberOf : Answer → ℤ
+numberOf (rowCount r) = pos r
+numberOf (refusedBy k) = negℤ (pos k)
+
+-- what C gets, and the lent slices as the call leaves them
+pub record Faced : Type 0 where
+  pub number : ℤ
+  pub left : Lent
+
+abbrev pub returned : ℤ → Lent → Faced
+returned z x = record { number = z; left = x }
+
+abbrev pub faced : Decoding → Faced
+faced o = returned (numberOf (o .answer)) (o .left)
+
+-- answers that fit a signed number of 32 bits
+pub data Small : Answer → Type 0 where
+  few-rows : {r : ℕ} → r ≤ 32 → Small (rowCount r)
+  low-number : {k : ℕ} → k ≤ 14 → Small (refusedBy k)
+
+-- every number of a table is at most n
+data AtMost (n : ℕ) : List Fault → Type 0 where
+  end : AtMost n []
+  next : {k : ℕ} {b : Bool} {fs : List Fault} → k ≤ n → AtMost n fs → AtMost n (fault k b ∷ fs)
+
+first-at-most : (n : ℕ) (fs : List Fault) → AtMost n fs → first fs ≤ n
+unfolding first
+first-at-most n [] a = omega arith
+first-at-most n (fault k true ∷ fs) (next h a) = h
+first-at-most n (fault k false ∷ fs) (next h a) = first-at-most n fs a
+
+refusal-small : (c : Code) (l p : ℕ) (soft : List ℤ) (r : Room) → decodeRefusal c l p soft r ≤ 14
+unfolding decodeRefusal
+refusal-small c l p soft r =
+    first-at-most 14 _
+    (next (omega arith) (next (omega arith) (next (omega arith) (next (omega arith) (next (omega arith) (next (omega arith)
+    (next (omega arith) (next (omega arith) (next (omega arith) (next (omega arith) (next (omega arith) (next (omega arith) end))))))))))))
+
+-- a served call has at most l rows, and l is at most 32
+rows-small : (c : Code) (l p : ℕ) (soft : List ℤ) (r : Room) → First (decodeFaults c l p soft r) 0 → length (rows (codeTransform c) c soft l p) ≤ 32
+rows-small c l p soft r (later a (later b (later d (later e₄ (later e₅ f))))) =
+    let q = inside-of 1 32 l e₄ in
+    omega (arith, row-count (codeTransform c) c soft l p (q .0) (same-of (length (c .map)) (mapBytes (size c)) b) (ltb-false (size c) p e₅))
+
+pub small : (c : Code) (l p : ℕ) (soft : List ℤ) (x : Lent) → Small (decodeOutcome c l p soft x .answer)
+unfolding decodeOutcome decodeServed decodeRefusal
+small c l p soft x = by-number (decodeRefusal c l p soft (roomOf x)) refl
+  where
+    by-number : (k : ℕ) → first (decodeFaults c l p soft (roomOf x)) ≡ k
+        → Small (settled k (λ j. decoding (refusedBy j) x) (decodedRows (roomOf x) (rows (codeTransform c) c soft l p)) .answer)
+    by-number zero e = few-rows (rows-small c l p soft (roomOf x) (of-first (decodeFaults c l p soft (roomOf x)) 0 (sym e)))
+    by-number (suc k) e = low-number (subst (λ (j : ℕ). j ≤ 14) e (refusal-small c l p soft (roomOf x)))
+
+-- a call's face, from its outcome
+pub face-is : {z : ℤ} {a : Answer} {x : Lent} {o : Decoding} → z ≡ numberOf a → decoding a x ≡ o → returned z x ≡ faced o
+face-is {x} p e = ap (λ (z : ℤ). returned z x) p ∙ ap faced e
+
+pub answer-small : {a : Answer} {x : Lent} {o : Decoding} → Small (o .answer) → decoding a x ≡ o → Small a
+answer-small h e = subst (λ (o : Decoding). Small (o .answer)) (sym e) h

@@ -1,0 +1,75 @@
+use mathlib.Core.Path.{_≡_}
+use Prim.Native.Nat.{_-_, _*_}
+use native.Mathlib.Omega.{arith}
+use lib.ListN.{length, take, drop}
+use borrow.Author.Needs.{needs}
+use lib.ListN.{length-take, length-drop}
+use Rattle.decoder.proofs.Serving.{n-small}
+use lib.Seq.{take-all}
+use Rattle.decoder.proofs.serve.write_bits.Statement.{statement}
+use Rattle.decoder.proofs.serve.write_bits.Tie as tie
+
+mul-k : tie.Need-mul-k
+mul-k c = search needs
+
+times-requires : tie.Need-times-requires
+times-requires c κs =
+    let s = c .before .before .before in
+    (omega (arith, s .pre .list), omega (arith, s .pre .stop, n-small (s .args .m) (s .args .n) (s .pre .most) (s .pre .size-is)))
+
+sub-write-inputs : tie.Need-sub-write-inputs
+sub-write-inputs c = search needs
+
+part-write-inputs-start : tie.Need-part-write-inputs-start
+part-write-inputs-start c = search needs
+
+part-write-inputs-end : tie.Need-part-write-inputs-end
+part-write-inputs-end c = search needs
+
+write-inputs-requires : tie.Need-write-inputs-requires
+write-inputs-requires c κs =
+    let s = c .before .before .before .before .before .before in
+    record {
+      list = s .pre .list;
+      few = s .pre .few;
+      size = n-small (s .args .m) (s .args .n) (s .pre .most) (s .pre .size-is);
+      stop = s .pre .stop;
+      past-is = c .before .before .times .ensures .0;
+      there = simp (length-take, length-drop) (omega (arith, c .before .before .times .ensures .0, s .pre .history));
+      room = s .pre .input-room;
+    }
+
+write-words-requires : tie.Need-write-words-requires
+write-words-requires c κs = search needs
+
+same-length : tie.Need-same-length
+same-length c = search needs
+
+same-length-2 : tie.Need-same-length-2
+same-length-2 c = search needs
+
+returns : tie.Need-returns
+returns c =
+    let s = c .before .before .before .before .before .before .before .before .before .before .before .before .before .before in
+    let g = s .args .b .now in
+    let k = 3 * s .args .h in
+    let e : take (length g - k) (drop k g) ≡ drop k g = take-all (length g - k) (drop k g) (simp length-drop (omega arith)) in
+    record {
+      inputs-left = rw e at (c .before .before .before .before .before .before .before .write-inputs .ensures);
+      words-left = c .before .before .write-words .ensures;
+    }
+
+pub write-bits-spec : {M : Type 1} → statement M
+write-bits-spec =
+    tie.close
+    (tie.spec
+    mul-k
+    times-requires
+    sub-write-inputs
+    part-write-inputs-start
+    part-write-inputs-end
+    write-inputs-requires
+    write-words-requires
+    same-length
+    same-length-2
+    returns)

@@ -1,0 +1,216 @@
+-- A position, on entries and on prefixes: where the entries xs stand for the prefixes ps, the best of their children's entries
+-- stand for the best of the prefixes' children.
+-- Assumes nothing.
+use mathlib.Core.Path.{_≡_, refl, sym, ap, _∙_}
+use mathlib.Core.Bool.{Bool}
+use mathlib.Core.List.{List, [], _∷_, _++_, map, map-append, append-nil, append-assoc}
+use Prim.Native.Nat.{ℕ, zero, suc, _+_, _*_, _≤_, _<_}
+use native.Mathlib.Omega.{arith}
+use native.Mathlib.Nat.{le-refl}
+use lib.ListN.{length, take, getD, length-append, length-map}
+use lib.Seq.{take-suc, take-length}
+use lib.Dec.{leb}
+use Rattle.spec.specs.Decoder.{sortBy, lexBefore, continued, families}
+use Rattle.laws.specs.ListCost.{cheaper, All, none, more, all-sort, all-take, all-append, Long}
+use Rattle.live.specs.Entries.{codeOf, placeOf, bitOf, parentOf, lexOf, branches, childrenOf}
+use Rattle.live.specs.Rising.{Pairs, none₂, more₂}
+use Rattle.live.specs.Lists.{entries, entries-count}
+use Rattle.live.specs.declared.Live.{Live}
+use Rattle.live.specs.Stands.{Rep, Bred, Step, CostsAre}
+use Rattle.live.proofs.Sorting.{all-map, all-at, pairs-of, pairs-append, sort-agree, all-under, getD-map, best-under}
+use Rattle.live.proofs.Lexical.{lex-child, lex-lt, lex-agree, place-code, code-order}
+
+-- a child: the rank of its parent, and its bit
+record Child : Type 0 where
+  at : ℕ
+  bit : ℕ
+
+record Good (m : ℕ) (k : Child) : Type 0 where
+  at< : k .at < m
+  bit≤ : k .bit ≤ 1
+
+abbrev prefixAt : List (List ℕ) → Child → List ℕ
+prefixAt ps k = getD ps (k .at) [] ++ k .bit ∷ []
+
+abbrev placeAt : List ℕ → Child → ℕ
+placeAt xs k = 2 * lexOf xs (getD xs (k .at) 0) + k .bit
+
+abbrev codeAt : (List ℕ → ℕ) → List (List ℕ) → List ℕ → Child → ℕ
+codeAt cost ps xs k = codeOf (cost (prefixAt ps k)) (placeAt xs k) (k .at)
+
+module _ (cost : List ℕ → ℕ) (n : ℕ) (ps : List (List ℕ)) (xs : List ℕ) (R : Rep n ps xs) (few : length ps ≤ 32) where
+  abbrev Ours : Child → Type 0
+  Ours = Good (length ps)
+
+  place< : (k : Child) → Ours k → placeAt xs k < 134217728
+  place< k g =
+      let c : length xs ≡ length ps = R .counted in
+      let a : k .at < length ps = g .at< in
+      let b : k .bit ≤ 1 = g .bit≤ in
+      omega (arith, lex-lt xs (k .at) (omega arith) (omega arith))
+
+  place-is : (k : Child) → Ours k → placeOf (codeAt cost ps xs k) ≡ placeAt xs k
+  place-is k g =
+      let a : k .at < length ps = g .at< in
+      place-code (cost (prefixAt ps k)) (placeAt xs k) (k .at) (place< k g) (omega arith)
+
+  child-lex : (a b : Child) → Ours a → Ours b → lexBefore (prefixAt ps a) (prefixAt ps b) ≡ leb (placeAt xs a) (placeAt xs b)
+  child-lex a b g h =
+      let c : length xs ≡ length ps = R .counted in
+      let i : a .at < length ps = g .at< in
+      let j : b .at < length ps = h .at< in
+      lex-child (getD ps (a .at) []) (getD ps (b .at) []) _ _ (a .bit) (b .bit) (all-at [] (a .at) i (R .sized) ∙ sym (all-at [] (b .at) j (R .sized)))
+      (R .agree (a .at) (b .at) i j ∙ lex-agree xs (a .at) (b .at) (omega arith) (omega arith))
+      (R .agree (b .at) (a .at) j i ∙ lex-agree xs (b .at) (a .at) (omega arith) (omega arith))
+      (g .bit≤) (h .bit≤)
+
+  child-order : (a b : Child) → Ours a → Ours b → a .at ≤ b .at → cheaper cost (prefixAt ps a) (prefixAt ps b) ≡ leb (codeAt cost ps xs a) (codeAt cost ps xs b)
+  child-order a b g h r =
+      let j : b .at < length ps = h .at< in
+      rw (child-lex a b g h) (code-order (cost (prefixAt ps a)) (cost (prefixAt ps b)) _ _ _ _ (place< a g) (place< b h) r (omega arith))
+
+  child-long : (k : Child) → Ours k → Long (n + 1) (prefixAt ps k)
+  child-long k g = length-append (getD ps (k .at) []) (k .bit ∷ []) ∙ ap (_+ 1) (all-at [] (k .at) (g .at<) (R .sized))
+
+  child-bred : (k : Child) → Ours k → Bred cost ps (prefixAt ps k) (codeAt cost ps xs k)
+  child-bred k g =
+      let p : placeAt xs k < 134217728 = place< k g in
+      let a : k .at < length ps = g .at< in
+      let b : k .bit ≤ 1 = g .bit≤ in
+      let e : bitOf (codeAt cost ps xs k) ≡ k .bit = omega arith in
+      let f : parentOf (codeAt cost ps xs k) ≡ k .at = omega arith in
+      record { costs = omega arith; parent = omega arith; child = rw (e, f) }
+
+  -- entries stand for the children that they are made of
+  stand : (ks : List Child) → All Ours ks → Step cost (n + 1) ps (map (prefixAt ps) ks) (map (codeAt cost ps xs) ks)
+  stand ks good =
+      let d : Child = record { at = 0; bit = 0 } in
+      let f = prefixAt ps in
+      let g = codeAt cost ps xs in
+      let m : length (map f ks) ≡ length ks = length-map ks f in
+      record {
+        rep = record {
+          counted = length-map ks g ∙ sym m;
+          sized = all-under f (Long (n + 1)) (all-map child-long good);
+          agree = λ i j h k.
+              let h′ : i < length ks = omega arith in
+              let k′ : j < length ks = omega arith in
+              let a : Ours (getD ks i d) = all-at d i h′ good in
+              let b : Ours (getD ks j d) = all-at d j k′ good in
+              rw (getD-map f ks i d [] h′, getD-map f ks j d [] k′, getD-map g ks i d 0 h′, getD-map g ks j d 0 k′, place-is (getD ks i d) a, place-is (getD ks j d) b)
+              (child-lex (getD ks i d) (getD ks j d) a b);
+        };
+        bred = λ i h.
+            let h′ : i < length ks = omega arith in
+            rw (getD-map f ks i d [] h′, getD-map g ks i d 0 h′) (child-bred (getD ks i d) (all-at d i h′ good));
+      }
+
+  -- the best l of any children
+  best-step : (l : ℕ) (ks : List Child) → All Ours ks → Pairs (λ (a b : Child). a .at ≤ b .at) ks
+      → Step cost (n + 1) ps (take l (sortBy (cheaper cost) (map (prefixAt ps) ks))) (take l (sortBy leb (map (codeAt cost ps xs) ks)))
+  best-step l ks good inorder =
+      let f = prefixAt ps in
+      let g = codeAt cost ps xs in
+      let leP : Child → Child → Bool = λ a b. cheaper cost (f a) (f b) in
+      let leC : Child → Child → Bool = λ a b. leb (g a) (g b) in
+      let sorts : sortBy leP ks ≡ sortBy leC ks = sort-agree leP leC (pairs-of child-order good inorder) in
+      let p : map f (take l (sortBy leP ks)) ≡ take l (sortBy (cheaper cost) (map f ks)) = best-under f l (cheaper cost) ks in
+      let q : map g (take l (sortBy leC ks)) ≡ take l (sortBy leb (map g ks)) = best-under g l leb ks in
+      rw (← p, ← q, ← sorts) (stand (take l (sortBy leP ks)) (all-take l (all-sort leP good)))
+
+-- ---- the children of the first prefixes at a position
+all-branches : {A : Type 0} (P : A → Type 0) (f : ℕ) (a b : A) → P a → P b → All P (branches f a b)
+all-branches P zero a b p q = more p (more q none)
+all-branches P (suc f) a b p q = more p none
+
+map-branches : {A B : Type 0} (g : A → B) (f : ℕ) (a b : A) → map g (branches f a b) ≡ branches f (g a) (g b)
+map-branches g zero a b = refl
+map-branches g (suc f) a b = refl
+
+same-branches : (f a b c d : ℕ) → a ≡ c → (f ≡ 0 → b ≡ d) → branches f a b ≡ branches f c d
+same-branches zero a b c d p q = rw (p, q refl)
+same-branches (suc f) a b c d p q = rw p
+
+continued-is : (f : ℕ) (w : List ℕ) → continued f w ≡ branches f (w ++ 0 ∷ []) (w ++ 1 ∷ [])
+continued-is zero w = refl
+continued-is (suc f) w = refl
+
+families-snoc : (g : List ℕ → List (List ℕ)) (ws : List (List ℕ)) (w : List ℕ) → families g (ws ++ w ∷ []) ≡ families g ws ++ g w
+families-snoc g [] w = append-nil (g w)
+families-snoc g (v ∷ ws) w = rw (families-snoc g ws w, append-assoc)
+
+abbrev to : ℕ → ℕ → Child
+to b i = record { at = i; bit = b }
+
+module _ (f : ℕ) where
+  childList : ℕ → List Child
+  childList zero = []
+  childList (suc i) = childList i ++ branches f (to 0 i) (to 1 i)
+
+  list-good : (m i : ℕ) → i ≤ m → All (Good m) (childList i)
+  unfolding childList
+  list-good m zero h = none
+  list-good m (suc i) h =
+      all-append (list-good m i (omega arith))
+      (all-branches (Good m) f (to 0 i) (to 1 i) (record { at< = omega arith; bit≤ = omega arith }) (record { at< = omega arith; bit≤ = omega arith }))
+
+  after : (i : ℕ) (k : Child) → Good i k → All (λ (b : Child). k .at ≤ b .at) (branches f (to 0 i) (to 1 i))
+  after i k g =
+      let h : k .at < i = g .at< in
+      all-branches (λ (b : Child). k .at ≤ b .at) f (to 0 i) (to 1 i) (omega arith) (omega arith)
+
+  list-order : (i : ℕ) → Pairs (λ (a b : Child). a .at ≤ b .at) (childList i)
+  unfolding childList
+  list-order zero = none₂
+  list-order (suc i) = pairs-append (list-order i) (go f) (all-map (after i) (list-good i i (omega arith)))
+    where
+      go : (f : ℕ) → Pairs (λ (a b : Child). a .at ≤ b .at) (branches f (to 0 i) (to 1 i))
+      go zero = more₂ (more (le-refl i) none) (more₂ none none₂)
+      go (suc f) = more₂ none none₂
+
+  list-prefixes : (ps : List (List ℕ)) (i : ℕ) → i ≤ length ps → map (prefixAt ps) (childList i) ≡ families (continued f) (take i ps)
+  unfolding childList
+  list-prefixes ps zero h = refl
+  list-prefixes ps (suc i) h =
+      rw (
+        map-append (prefixAt ps) (childList i),
+        list-prefixes ps i (omega arith),
+        map-branches (prefixAt ps) f (to 0 i) (to 1 i),
+        take-suc ps i [] h,
+        families-snoc (continued f) (take i ps) (getD ps i []),
+        continued-is f (getD ps i []),
+      )
+
+  all-prefixes : (ps : List (List ℕ)) → map (prefixAt ps) (childList (length ps)) ≡ families (continued f) ps
+  all-prefixes ps = list-prefixes ps (length ps) (omega arith) ∙ ap (families (continued f)) (take-length ps)
+
+  module _ (cost : List ℕ → ℕ) (ps : List (List ℕ)) (xs cs ds : List ℕ) (zeros : CostsAre cost 0 cs ps) (ones : f ≡ 0 → CostsAre cost 1 ds ps) where
+    list-codes : (i : ℕ) → i ≤ length ps → map (codeAt cost ps xs) (childList i) ≡ childrenOf f xs cs ds i
+    unfolding childList
+    list-codes zero h = refl
+    list-codes (suc i) h =
+        rw (map-append (codeAt cost ps xs) (childList i), list-codes i (omega arith), map-branches (codeAt cost ps xs) f (to 0 i) (to 1 i))
+        (ap (childrenOf f xs cs ds i ++_) (same-branches f _ _ _ _ (rw (zeros i h)) (λ e. rw (ones e i h))))
+
+    all-codes : (m : ℕ) → length ps ≡ m → map (codeAt cost ps xs) (childList (length ps)) ≡ childrenOf f xs cs ds m
+    all-codes m e = list-codes (length ps) (omega arith) ∙ ap (childrenOf f xs cs ds) e
+
+-- ---- the start: the empty prefix alone
+pub start-rep : Rep 0 ([] ∷ []) (0 ∷ [])
+start-rep = record { counted = refl; sized = more refl none; agree = go }
+  where
+    go : (i j : ℕ) → i < 1 → j < 1 → lexBefore (getD ([] ∷ []) i []) (getD ([] ∷ []) j []) ≡ leb (placeOf (getD (0 ∷ []) i 0)) (placeOf (getD (0 ∷ []) j 0))
+    go zero zero h k = refl
+    go zero (suc j) h k = absurd (omega arith)
+    go (suc i) zero h k = absurd (omega arith)
+    go (suc i) (suc j) h k = absurd (omega arith)
+
+-- ---- the position
+module _ (s : Live) (f l : ℕ) (cs ds ys : List ℕ) (long : length (s .code) ≡ 33) (few : s .count ≤ 32)
+    (are : ys ≡ take l (sortBy leb (childrenOf f (entries s) cs ds (s .count)))) where
+  pub position : (cost : List ℕ → ℕ) (n : ℕ) (ps : List (List ℕ)) → Rep n ps (entries s) → CostsAre cost 0 cs ps → (f ≡ 0 → CostsAre cost 1 ds ps)
+      → Step cost (n + 1) ps (take l (sortBy (cheaper cost) (families (continued f) ps))) ys
+  position cost n ps R zeros ones =
+      let h : length ps ≡ s .count = sym (R .counted) ∙ entries-count s long (omega arith) in
+      rw (are, ← all-prefixes f ps, ← all-codes f cost ps (entries s) cs ds zeros ones (s .count) h)
+      (best-step cost n ps (entries s) R (omega arith) l (childList f (length ps)) (list-good f (length ps) (length ps) (omega arith)) (list-order f (length ps)))

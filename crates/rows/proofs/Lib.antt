@@ -1,0 +1,7 @@
+mod BitParts
+mod ReadBack
+mod Filling
+mod InputRows
+mod WordRows
+pub mod Signs
+mod ScoreRows

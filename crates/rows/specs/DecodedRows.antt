@@ -1,0 +1,128 @@
+-- The rows of the paper decoder are what the three calls leave in the lent outputs.
+use mathlib.Core.Path.{_≡_, refl, sym, ap, ap₂, _∙_}
+use mathlib.Core.List.{List, [], _∷_, _++_, map, map-map}
+use Prim.Native.Nat.{ℕ, zero, suc, _+_, _-_, _*_, _<_, _≤_}
+use native.Mathlib.Omega.{arith}
+use lib.ListN.{length, take, getD, replicate, length-append, length-map, length-replicate}
+use lib.Seq.{length-take-le, getD-take, ext-getD}
+use lib.Pow.{pow-mono}
+use lib.IntN.{ℤ, pos}
+use Rattle.spec.specs.Code.{Code, size, codeTransform}
+use Rattle.spec.specs.Score.{score}
+use Rattle.spec.specs.Decoder.{Row, live, rowOf, rows}
+use Rattle.spec.specs.Refusals.{Room}
+use Rattle.spec.specs.Outcome.{padded, concat, rowCount, lent, decoding, decodedRows}
+use Rattle.laws.specs.Cost.{cost, magnitude}
+use Rattle.laws.specs.Bounds.{cost-le}
+use Rattle.laws.specs.ScoreCost.{score-is}
+use Rattle.laws.specs.ListCost.{All, none, more, Long, live-long}
+use Rattle.rows.specs.Blocks.{Wide, filledRow, wide-filled, getD-map}
+use Rattle.rows.specs.Trace.{Traced, InputsWritten}
+use Rattle.rows.specs.Words.{WordsWritten}
+use Rattle.rows.specs.Scores.{scoreFrom, ScoresFit, ScoresWritten}
+
+-- ---- lists
+module _ {A : Type 0} {P : A → Type 0} where
+  all-at : {xs : List A} → All P xs → (d : A) (k : ℕ) → k < length xs → P (getD xs k d)
+  all-at none d k h = absurd (omega arith)
+  all-at (more p a) d zero h = p
+  all-at (more p a) d (suc k) h = all-at a d k (omega arith)
+
+  map-same : {B : Type 0} (f g : A → B) → ((x : A) → P x → f x ≡ g x) → {xs : List A} → All P xs → map f xs ≡ map g xs
+  map-same f g e none = refl
+  map-same {B} f g e (more {x} p a) = ap₂ (λ (v : B) (vs : List B). v ∷ vs) (e x p) (map-same f g e a)
+
+-- a padded list is padded to its own length
+padded-own : {A : Type 0} (z : A) (N : ℕ) (xs s : List A) → s ≡ padded z N xs → s ≡ padded z (length s) xs
+padded-own z N xs s e =
+    let long : length s ≡ length xs + (N - length xs) = ap length e ∙ length-append xs (replicate (N - length xs) z) ∙ ap (λ (k : ℕ). length xs + k) (length-replicate (N - length xs) z) in
+    let behind : N - length xs ≡ length s - length xs = omega arith in
+    e ∙ ap (λ (k : ℕ). xs ++ replicate k z) behind
+
+-- ---- a block
+-- the live prefixes after p positions
+abbrev pub prefixes : Code → List ℤ → ℕ → ℕ → List (List ℕ)
+prefixes c y l p = live (codeTransform c) c y l p
+
+-- costs of the live prefixes, by rank
+abbrev pub CostsAre : Code → List ℤ → ℕ → ℕ → List ℕ → Type 0
+CostsAre c y l p costs = (r : ℕ) → r < length (prefixes c y l p) → getD costs r 0 ≡ cost (c .m) y (getD (prefixes c y l p) r [])
+
+-- what the call that writes the scores asks for
+pub scores-fit : (c : Code) (y : List ℤ) (l p count total N : ℕ) (costs : List ℕ)
+    → c .m ≤ 10 → length y ≡ size c → length (prefixes c y l p) ≡ count → count ≤ 32 → count ≤ N → length costs ≡ 32
+    → total ≡ magnitude y → total ≤ 2047 * length y → CostsAre c y l p costs → ScoresFit total count N costs
+scores-fit c y l p count total N costs most ey ec few room there et small are = record {
+  small = omega (arith, pow-mono {i = c .m} {j = 10} most);
+  few = few;
+  room = room;
+  there = there;
+  below = λ r h. omega (arith, are r (omega arith), cost-le (c .m) y (getD (prefixes c y l p) r []));
+}
+
+-- A block decoded up to p: its live prefixes lie in the history g and have these costs, and the three calls have written its outputs.
+pub record BlockWritten (c : Code) (y : List ℤ) (l p count total : ℕ) (g costs inputs words : List ℕ) (scores : List ℤ) (room : Room) : Type 0 where
+  pub stop : p ≤ size c
+  pub soft : length y ≡ size c
+  pub few : length (prefixes c y l p) ≡ count
+  pub traced : Traced l p g (prefixes c y l p)
+  pub there : count ≤ length costs
+  pub costs-are : CostsAre c y l p costs
+  pub total-is : total ≡ magnitude y
+  pub inputs-left : InputsWritten l p (size c) count (room .inputs) g inputs
+  pub words-left : WordsWritten (c .m) (size c) count (room .words) inputs words
+  pub scores-left : ScoresWritten total count (room .scores) costs scores
+
+module _ {c : Code} {y : List ℤ} {l p count total : ℕ} {g costs inputs words : List ℕ} {scores : List ℤ} {room : Room}
+    (b : BlockWritten c y l p count total g costs inputs words scores room) where
+  ps : List (List ℕ)
+  ps = prefixes c y l p
+
+  T : List ℕ → List ℕ
+  T = codeTransform c
+
+  row : List ℕ → Row
+  row = rowOf T c y l
+
+  filled : List (List ℕ)
+  filled = map (filledRow (size c)) ps
+
+  held : inputs ≡ padded 0 (room .inputs) (concat filled)
+  unfolding ps filled
+  held = b .inputs-left .rows ps (b .few) (b .traced)
+
+  pub inputs-are : inputs ≡ padded 0 (room .inputs) (concat (map (λ (r : Row). r .input) (rows (codeTransform c) c y l p)))
+  unfolding ps T row filled rows
+  inputs-are = held ∙ ap (λ (xs : List (List ℕ)). padded 0 (room .inputs) (concat xs)) (sym (map-map (λ (r : Row). r .input) row ps))
+
+  pub words-are : words ≡ padded 0 (room .words) (concat (map (λ (r : Row). r .word) (rows (codeTransform c) c y l p)))
+  unfolding ps T row filled rows
+  words-are =
+      let long : Wide (size c) filled = wide-filled p (size c) ps (b .stop) (λ k h. all-at (live-long T c y l p) [] k h) in
+      b .words-left filled (length-map ps (filledRow (size c)) ∙ b .few) long (padded-own 0 (room .inputs) (concat filled) inputs held)
+      ∙ ap (λ (xs : List (List ℕ)). padded 0 (room .words) (concat xs)) (map-map T (filledRow (size c)) ps ∙ sym (map-map (λ (r : Row). r .word) row ps))
+
+  taken : take count costs ≡ map (cost (c .m) y) ps
+  unfolding ps
+  taken =
+      let long : length (take count costs) ≡ count = length-take-le count costs (b .there) in
+      ext-getD 0 (take count costs) (map (cost (c .m) y) ps) (long ∙ sym (length-map ps (cost (c .m) y) ∙ b .few))
+      (λ i h. getD-take count costs i 0 (omega arith) ∙ b .costs-are i (omega (arith, b .few)) ∙ sym (getD-map (cost (c .m) y) ps i [] 0 (omega (arith, b .few))))
+
+  pub scores-are : scores ≡ padded (pos 0) (room .scores) (map (λ (r : Row). r .score) (rows (codeTransform c) c y l p))
+  unfolding ps T row rows
+  scores-are =
+      let is : (w : List ℕ) → Long p w → scoreFrom (magnitude y) (cost (c .m) y w) ≡ score T (size c) y w = λ w h. sym (score-is (c .m) y w (b .soft) (omega (arith, h, b .stop))) in
+      b .scores-left
+      ∙ ap (padded (pos 0) (room .scores))
+      (ap₂ (λ (t : ℕ) (ks : List ℕ). map (scoreFrom t) ks) (b .total-is) taken
+      ∙ map-map (scoreFrom (magnitude y)) (cost (c .m) y) ps
+      ∙ map-same (λ w. scoreFrom (magnitude y) (cost (c .m) y w)) (score T (size c) y) is (live-long T c y l p)
+      ∙ sym (map-map (λ (r : Row). r .score) row ps))
+
+  -- the answer and the outputs of a call that is served, where both tables are cleared
+  pub rows-are : decoding (rowCount count) (lent (replicate (room .numbers) 0) (replicate (room .bytes) 0) inputs words scores) ≡ decodedRows room (rows (codeTransform c) c y l p)
+  unfolding ps T row
+  rows-are =
+      let count-is : count ≡ length (rows (codeTransform c) c y l p) = unfold rows in sym (length-map ps row ∙ b .few) in
+      cc (inputs-are, words-are, scores-are)

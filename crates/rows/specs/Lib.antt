@@ -1,0 +1,5 @@
+pub mod Blocks
+pub mod Trace
+pub mod Words
+pub mod Scores
+pub mod DecodedRows

@@ -1,0 +1,14 @@
+pub mod Laws
+pub mod Meaning
+pub mod Sums
+pub mod Grounds
+pub mod Walks
+pub mod Rises
+pub mod Turns
+pub mod Grounded
+pub mod Ending
+pub mod Next
+pub mod Reading
+pub mod Cutting
+pub mod Starting
+pub mod Frame

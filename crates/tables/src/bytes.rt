@@ -1,0 +1,83 @@
+ghost use mathlib.Core.Path.{_≡_};
+ghost use mathlib.Core.Logic.{_⊎_};
+ghost use Prim.Native.Nat.{ℕ, _+_, _*_, _%_, _<_, _≤_};
+ghost use lib.ListN.{length, getD};
+ghost use Rattle.windows.specs.Op.{Wrote};
+ghost use Rattle.tables.specs.Tab.{slotStart, WroteRows, Slots, Apart, mix, pairF, pushF, sumF, FitBits};
+use crate::words::place;
+use crate::words::wide;
+
+// The sums of the w bits at p and at q, to the w bytes at to.
+fn blend(b: &mut [u8], p: usize, q: usize, to: usize, w: usize)
+    requires { ⌜ (p + w ≤ length (now b)) × (q + w ≤ length (now b)) × (to + w ≤ length (now b)) × Apart p w to w × Apart q w to w ⌝ }
+    ensures { λ _. ⌜ Wrote (mix (now (b .entry)) p q) to w (now (b .entry)) (now (b .exit)) ⌝ }
+{
+    let mut i = 0;
+    while i < w {
+        b[to + i] = (b[p + i] % 2 + b[q + i] % 2) % 2;
+        i += 1;
+    }
+}
+
+// The new bits of the children of w nodes.
+fn pair(b: &mut [u8], p: usize, q: usize, e: usize, to: usize, w: usize)
+    requires { ⌜ (p + w ≤ length (now b)) × (q + w ≤ length (now b)) × (e + w ≤ length (now b)) × (to + 2 * w ≤ length (now b)) × Apart p w to (2 * w) × Apart q w to (2 * w) × Apart e w to (2 * w) ⌝ }
+    ensures { λ _. ⌜ Wrote (pairF (now (b .entry)) p q e w) to (2 * w) (now (b .entry)) (now (b .exit)) ⌝ }
+{
+    blend(b, p, e, to, w);
+    blend(b, q, e, to + w, w);
+}
+
+// The new bits of the children of path r's nodes, to their even bits (f = 0) or their odd ones (f = 2 h).
+fn push_row(b: &mut [u8], w: usize, l: usize, h: usize, f: usize, r: usize, o: u8)
+    requires { ⌜ FitBits (2 * w) l h (now b) × (r < l) × (o < l) × ((f ≡ 0) ⊎ (f ≡ 2 * h)) ⌝ }
+    ensures { λ _. ⌜ Wrote (pushF w l h (now (b .entry)) o r) (f + slotStart (2 * w) l r) (2 * w) (now (b .entry)) (now (b .exit)) ⌝ }
+{
+    let from = place(w, l, wide(o));
+    let e = place(w, l, r);
+    let to = f + place(2 * w, l, r);
+    pair(b, h + from, 2 * h + from, e, to, w);
+}
+
+// Of every live path.
+pub fn push(
+    b: &mut [u8],
+    slots: &[u8],
+    os: usize,
+    count: usize,
+    w: usize,
+    l: usize,
+    h: usize,
+    f: usize,
+)
+    requires { ⌜ FitBits (2 * w) l h (now b) × Slots l count os (now slots) × (count ≤ l) × ((f ≡ 0) ⊎ (f ≡ 2 * h)) ⌝ }
+    ensures { λ _. ⌜ WroteRows (λ r. pushF w l h (now (b .entry)) (getD (now (slots .entry)) (os + r) 0) r) (f + slotStart (2 * w) l 0) (2 * w) count (now (b .entry)) (now (b .exit)) ⌝ }
+{
+    let mut r = 0;
+    while r < count {
+        push_row(b, w, l, h, f, r, slots[os + r]);
+        r += 1;
+    }
+}
+
+// The sums of path r.
+fn sum_row(b: &mut [u8], w: usize, l: usize, h: usize, r: usize, s: u8)
+    requires { ⌜ FitBits w l h (now b) × (r < l) × (s < l) ⌝ }
+    ensures { λ _. ⌜ Wrote (sumF w l h (now (b .entry)) s r) (h + slotStart w l r) w (now (b .entry)) (now (b .exit)) ⌝ }
+{
+    let from = place(w, l, wide(s));
+    let at = place(w, l, r);
+    blend(b, from, 2 * h + at, h + at, w);
+}
+
+// Of every live path.
+pub fn sums(b: &mut [u8], slots: &[u8], ws: usize, count: usize, w: usize, l: usize, h: usize)
+    requires { ⌜ FitBits w l h (now b) × Slots l count ws (now slots) × (count ≤ l) ⌝ }
+    ensures { λ _. ⌜ WroteRows (λ r. sumF w l h (now (b .entry)) (getD (now (slots .entry)) (ws + r) 0) r) (h + slotStart w l 0) w count (now (b .entry)) (now (b .exit)) ⌝ }
+{
+    let mut r = 0;
+    while r < count {
+        sum_row(b, w, l, h, r, slots[ws + r]);
+        r += 1;
+    }
+}

@@ -1,0 +1,88 @@
+ghost use mathlib.Core.Path.{_≡_};
+ghost use Prim.Native.Nat.{_+_, _%_, _≤_, _^_, min};
+ghost use mathlib.Core.List.{[], _∷_};
+ghost use lib.ListN.{length, getD};
+ghost use Rattle.windows.specs.Op.{wrapOf, entry, sixteen, flipped, masked, kindB, tabAt, lift32, Wrote};
+use crate::ends::ends;
+use crate::table::read;
+use crate::table::store;
+use crate::window::Eight;
+use crate::window::Sixteen;
+use crate::window::least;
+use std::num::wrapping_add_u32;
+
+fn cell(a: u32, b: u32, c: u32, d: u32) -> u32
+    ensures { λ r. ⌜ r ≡ min ((a + b) % 2 ^ 32) ((c + d) % 2 ^ 32) ⌝ }
+{
+    least(wrapping_add_u32(a, b), wrapping_add_u32(c, d))
+}
+
+fn pick(e: u8, a: u32, b: u32) -> u32
+    ensures { λ r. ⌜ r ≡ getD (a ∷ b ∷ []) (e % 2) 0 ⌝ }
+{
+    if e % 2 == 0 { a } else { b }
+}
+
+pub(crate) fn flip(a: Eight, e: u8) -> Eight
+    ensures { λ r. ⌜ r ≡ flipped (e % 2) a ⌝ }
+{
+    Eight {
+        c0: pick(e, a.c0, a.c1),
+        c1: pick(e, a.c1, a.c0),
+        c2: pick(e, a.c2, a.c3),
+        c3: pick(e, a.c3, a.c2),
+        c4: pick(e, a.c4, a.c5),
+        c5: pick(e, a.c5, a.c4),
+        c6: pick(e, a.c6, a.c7),
+        c7: pick(e, a.c7, a.c6),
+    }
+}
+
+pub(crate) fn combine(a: Eight, b: Eight) -> Sixteen
+    ensures { λ r. ⌜ r ≡ sixteen (wrapOf (entry a) (entry b) 0) ⌝ }
+{
+    Sixteen {
+        x0: cell(a.c0, b.c0, a.c4, b.c4),
+        x1: cell(a.c1, b.c1, a.c5, b.c5),
+        x2: cell(a.c3, b.c1, a.c7, b.c5),
+        x3: cell(a.c2, b.c0, a.c6, b.c4),
+        x4: cell(a.c2, b.c2, a.c6, b.c6),
+        x5: cell(a.c3, b.c3, a.c7, b.c7),
+        x6: cell(a.c1, b.c3, a.c5, b.c7),
+        x7: cell(a.c0, b.c2, a.c4, b.c6),
+        x8: cell(a.c6, b.c2, a.c2, b.c6),
+        x9: cell(a.c7, b.c3, a.c3, b.c7),
+        x10: cell(a.c5, b.c3, a.c1, b.c7),
+        x11: cell(a.c4, b.c2, a.c0, b.c6),
+        x12: cell(a.c4, b.c0, a.c0, b.c4),
+        x13: cell(a.c5, b.c1, a.c1, b.c5),
+        x14: cell(a.c7, b.c1, a.c3, b.c5),
+        x15: cell(a.c6, b.c0, a.c2, b.c4),
+    }
+}
+
+fn lift(a: Eight, b: Eight, e: u8, n: usize) -> Sixteen
+    ensures { λ r. ⌜ r ≡ masked n (sixteen (wrapOf (entry (flipped (e % 2) a)) (entry b) 0)) ⌝ }
+{
+    ends(combine(flip(a, e), b), n)
+}
+
+// One node's window, from its children's.
+pub fn node(
+    t: &mut [u32],
+    pa: usize,
+    pb: usize,
+    po: usize,
+    oa: u8,
+    ob: u8,
+    e: u8,
+    n: usize,
+    even: bool,
+)
+    requires { ⌜ (pa + 16 ≤ length (now t)) × (pb + 16 ≤ length (now t)) × (po + 16 ≤ length (now t)) × (n % 2 ≡ 1) ⌝ }
+    ensures { λ _. ⌜ Wrote (lift32 n (kindB even) (tabAt (now (t .entry)) pa (oa % 2)) (tabAt (now (t .entry)) pb (ob % 2)) (e % 2)) po 16 (now (t .entry)) (now (t .exit)) ⌝ }
+{
+    let a = read(t, pa, oa, even);
+    let b = read(t, pb, ob, even);
+    store(t, po, lift(a, b, e, n));
+}

@@ -1,0 +1,53 @@
+/*
+ * Calls of the decoder, made at random so that the refusal, or that there is none,
+ * is known from how a call was made.
+ */
+#ifndef DECODER_CALLS_H
+#define DECODER_CALLS_H
+
+#include <stddef.h>
+#include <stdint.h>
+
+enum { DECODER_MIN_M = 2, DECODER_MAX_M = 10, DECODER_MAX_N = 1 << DECODER_MAX_M };
+enum { DECODER_MAX_LIST = 32, DECODER_REFUSALS = 10 };
+
+/* No map and no soft values of a call are longer. */
+enum { MAP_ROOM = 512, SOFT_ROOM = 4 * DECODER_MAX_N };
+
+/* Which positions are frozen: none, all, about some share of them, all before some
+ * place, all from some place on, the half of lowest weight, all but a few. */
+enum code_kind { CODE_OPEN, CODE_SHUT, CODE_MIXED, CODE_FRONT, CODE_BACK, CODE_POLAR, CODE_FEW_CLEAR, CODE_KINDS };
+
+/* Soft values: all 0; of magnitude 0 and 1; 0 to 2; 0 to 20; 0 to 2047; 2047 alone;
+ * noise round a word of the code. With the first three scores tie often. */
+enum soft_kind { SOFT_ZERO, SOFT_UNITS, SOFT_TIES, SOFT_SMALL, SOFT_WIDE, SOFT_ENDS, SOFT_NOISY, SOFT_KINDS };
+
+struct decoder_call {
+    uint32_t m, list_size, stop;
+    uint8_t map[MAP_ROOM];   /* filled to its end, so that any length is a slice */
+    int16_t soft[SOFT_ROOM]; /* so are these, and all in range */
+    size_t map_len, soft_len;
+    size_t numbers_len, bytes_len, inputs_len, words_len, scores_len;
+    uint32_t refusal; /* what the call must be refused with; 0 if it must be served */
+};
+
+/* A call that is served. What is lent has the length needed or is longer. */
+void decoder_call_good(struct decoder_call *c, uint32_t m, enum code_kind code, enum soft_kind soft,
+                       uint32_t list_size, uint32_t stop);
+
+/* Gives what is lent exactly the lengths that are needed. */
+void decoder_call_trim(struct decoder_call *c);
+
+/* Makes a good call faulty: bit j of faults asks for refusal j + 1. One that the
+ * code cannot have (3, where n is not 4) is left out. The call's refusal becomes the
+ * first that applies, 0 if none. */
+void decoder_call_spoil(struct decoder_call *c, unsigned faults);
+
+/* A list size, a stop position and a soft value that are refused, at times one that
+ * a narrow register takes for a good one. which is below the count given. */
+uint32_t decoder_bad_list_size(const struct decoder_call *c, size_t which);
+uint32_t decoder_bad_stop(const struct decoder_call *c, size_t which);
+int16_t decoder_bad_soft(size_t which);
+enum { BAD_LIST_SIZES = 10, BAD_STOPS = 9, BAD_SOFTS = 7 };
+
+#endif

@@ -1,0 +1,31 @@
+/*
+ * Makes one call of the decoder in guarded memory, twice on differently dirtied
+ * memory, and judges it: by what is known from how the call was made, by the paper
+ * decoder's answer and outputs, and by what the call left in every lent slice and
+ * round it.
+ */
+#ifndef DECODER_CHECK_H
+#define DECODER_CHECK_H
+
+#include "decoder_calls.h"
+
+/* seed is for messages. */
+void decoder_check_open(unsigned long seed);
+
+/* Makes the call. Ends the program with status 1, and says what differs, if anything
+ * is not as it must be. Counts the call in decoder_tally.h under sizes_of, the m that
+ * the sizes were made for: the m passed may be another. */
+void decoder_check(const struct decoder_call *c, uint32_t sizes_of);
+
+/* What the last call answered and left in its outputs. */
+struct decoder_outputs {
+    int32_t answer;
+    const uint8_t *inputs, *words;
+    const int32_t *scores;
+};
+struct decoder_outputs decoder_check_outputs(void);
+
+/* Prints the call and what is wrong with it, and ends the program. */
+void decoder_check_fail(const struct decoder_call *c, const char *what);
+
+#endif

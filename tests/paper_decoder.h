@@ -1,0 +1,32 @@
+/*
+ * The list decoder written from the rules alone, to compare the library with. It
+ * shares no code or table with it: scores are the signed maxima of the rules, each
+ * worked out anew from the soft values, and nothing goes from one position to the
+ * next but the live prefixes.
+ */
+#ifndef PAPER_DECODER_H
+#define PAPER_DECODER_H
+
+#include <stddef.h>
+#include <stdint.h>
+
+enum { PAPER_MAX_LIST = 32 };
+
+/* The correlation of a word of n bits with n soft values. */
+int32_t paper_correlation(size_t n, const int16_t *soft, const uint8_t *word);
+
+/* The score of the first len bits of prefix: the largest correlation over all
+ * inputs of n bits that begin with them. n is a power of two up to 1024. */
+int32_t paper_score(size_t n, const int16_t *soft, const uint8_t *prefix, size_t len);
+
+/* Takes and answers what caldurrex_decode does. */
+int32_t paper_decode(uint32_t m, const uint8_t *map, size_t map_len,
+                     uint32_t list_size, uint32_t stop,
+                     const int16_t *soft, size_t soft_len,
+                     uint32_t *numbers, size_t numbers_len,
+                     uint8_t *bytes, size_t bytes_len,
+                     uint8_t *inputs, size_t inputs_len,
+                     uint8_t *words, size_t words_len,
+                     int32_t *scores, size_t scores_len);
+
+#endif
