@@ -114,9 +114,9 @@ pub fn serve(
         (code m (now (map .entry))) l p (now (soft .entry)) (room (length (now (t .entry))) (length (now (b .entry))) (length (now (inputs .entry))) (length (now (words .entry))) (length (now (scores .entry)))) ⌝ }
 {
     let s = decode_list(m, map, l, p, soft, t, b, n, h);
-    let count = s.count;
-    write_bits(inputs, words, b, count, m, l, p, n, h);
+    let rows = s.count;
+    write_bits(inputs, words, b, rows, m, l, p, n, h);
     write_costs(scores, soft, s);
     clear_tables(t, b);
-    count
+    rows
 }

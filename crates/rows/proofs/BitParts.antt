@@ -1,20 +1,12 @@
--- Words of bits: their parts, joins and stores. Assumes nothing.
-use mathlib.Core.List.{List, _++_}
+-- Words of bits after stores.
+use mathlib.Core.List.{List}
 use Prim.Native.Nat.{ℕ, zero, suc, _<_}
 use native.Mathlib.Omega.{arith}
-use lib.ListN.{take, set, replicate}
+use lib.ListN.{set, replicate}
 use borrow.Rule.Slice.PartMut.{putMid}
 use Rattle.spec.specs.Bits.{Bits, nil, cons}
 use Rattle.laws.specs.BitLaws.{bits-drop}
-
-bits-append : {u v : List ℕ} → Bits u → Bits v → Bits (u ++ v)
-bits-append nil q = q
-bits-append (cons h p) q = cons h (bits-append p q)
-
-pub bits-take : {v : List ℕ} (k : ℕ) → Bits v → Bits (take k v)
-bits-take zero p = nil
-bits-take (suc k) nil = nil
-bits-take (suc k) (cons h p) = cons h (bits-take k p)
+use Rattle.laws.specs.MapBits.{bits-append, bits-take}
 
 pub bits-zeros : (k : ℕ) → Bits (replicate k 0)
 bits-zeros zero = nil

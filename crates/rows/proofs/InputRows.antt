@@ -10,7 +10,8 @@ use Rattle.laws.specs.BitLaws.{bits-drop}
 use Rattle.fill.specs.Fill.{filledFrom}
 use Rattle.rows.specs.Trace.{Traced, Fits, RowTraced, InputsWritten}
 use Rattle.rows.specs.Blocks.{Wide, filledRow, wide-filled, getD-map, drop-replicate}
-use Rattle.rows.proofs.BitParts.{bits-take, bits-zeros, bits-put}
+use Rattle.laws.specs.MapBits.{bits-take}
+use Rattle.rows.proofs.BitParts.{bits-zeros, bits-put}
 use Rattle.rows.proofs.Filling.{Filling, Filled, cleared, filling-none, rows-fit, filling-more, row-lent, row-put, filled-end}
 
 -- after r rows of count

@@ -13,7 +13,7 @@ use Rattle.fill.specs.Fill.{filledFrom}
 use Rattle.transform.specs.Word.{Word}
 use Rattle.rows.specs.Blocks.{Wide, row-of, getD-map}
 use Rattle.rows.specs.Words.{WordsFit, WordsWritten}
-use Rattle.rows.proofs.BitParts.{bits-take}
+use Rattle.laws.specs.MapBits.{bits-take}
 use Rattle.rows.proofs.Filling.{Filling, Filled, cleared, filling-none, rows-fit, next-inside, filling-more, row-put, filled-end}
 
 -- the inputs hold the rows us, and 0 behind them

@@ -15,7 +15,7 @@ use Rattle.spec.specs.Outcome.{padded, concat, rowCount, lent, decoding, decode
 use Rattle.laws.specs.Cost.{cost, magnitude}
 use Rattle.laws.specs.Bounds.{cost-le}
 use Rattle.laws.specs.ScoreCost.{score-is}
-use Rattle.laws.specs.ListCost.{All, none, more, Long, live-long}
+use Rattle.laws.specs.ListCost.{All, none, more, Long, live-long, all-at}
 use Rattle.rows.specs.Blocks.{Wide, filledRow, wide-filled, getD-map}
 use Rattle.rows.specs.Trace.{Traced, InputsWritten}
 use Rattle.rows.specs.Words.{WordsWritten}
@@ -23,11 +23,6 @@ use Rattle.rows.specs.Scores.{scoreFrom, ScoresFit, ScoresWritten}
 
 -- ---- lists
 module _ {A : Type 0} {P : A → Type 0} where
-  all-at : {xs : List A} → All P xs → (d : A) (k : ℕ) → k < length xs → P (getD xs k d)
-  all-at none d k h = absurd (omega arith)
-  all-at (more p a) d zero h = p
-  all-at (more p a) d (suc k) h = all-at a d k (omega arith)
-
   map-same : {B : Type 0} (f g : A → B) → ((x : A) → P x → f x ≡ g x) → {xs : List A} → All P xs → map f xs ≡ map g xs
   map-same f g e none = refl
   map-same {B} f g e (more {x} p a) = ap₂ (λ (v : B) (vs : List B). v ∷ vs) (e x p) (map-same f g e a)
@@ -98,7 +93,7 @@ module _ {c : Code} {y : List ℤ} {l p count total : ℕ} {g costs inputs words
   pub words-are : words ≡ padded 0 (room .words) (concat (map (λ (r : Row). r .word) (rows (codeTransform c) c y l p)))
   unfolding ps T row filled rows
   words-are =
-      let long : Wide (size c) filled = wide-filled p (size c) ps (b .stop) (λ k h. all-at (live-long T c y l p) [] k h) in
+      let long : Wide (size c) filled = wide-filled p (size c) ps (b .stop) (λ k h. all-at [] (live-long T c y l p) k h) in
       b .words-left filled (length-map ps (filledRow (size c)) ∙ b .few) long (padded-own 0 (room .inputs) (concat filled) inputs held)
       ∙ ap (λ (xs : List (List ℕ)). padded 0 (room .words) (concat xs)) (map-map T (filledRow (size c)) ps ∙ sym (map-map (λ (r : Row). r .word) row ps))
 
