@@ -7,7 +7,7 @@ use lib.ListN.{length, take, getD}
 use lib.Seq.{length-take-le}
 use Rattle.tables.specs.Tab.{slotStart}
 use Rattle.tables.specs.Walk.{Named, Tables}
-use Rattle.tables.proofs.Meaning.{first-deep}
+use Rattle.tables.proofs.Places.{slot-deep}
 use Rattle.tables.proofs.Cutting.{cut-named}
 use Rattle.live.specs.declared.Live.{Live}
 use Rattle.live.specs.Lists.{entries}
@@ -17,7 +17,7 @@ use Rattle.decoder.proofs.Parents.{parents-known}
 
 module _ (deep l h n i at : ℕ) (t b slots map : List ℕ) (f : PositionFits deep l h n i at (length t) (length b) (length slots) (length map)) where
   pub top-low : slotStart 1 l l ≤ h
-  top-low = omega (arith, first-deep 0 (suc deep) l 0 (omega arith), f .sizes .half)
+  top-low = omega (arith, slot-deep 0 (suc deep) l 0 (omega arith), f .sizes .half)
 
   pub bits-long : length (take (3 * h) b) ≡ 3 * h
   bits-long = length-take-le (3 * h) b (omega (arith, f .place, f .room))

@@ -1,15 +1,14 @@
--- Every entry of a table is at most the sum of the nodeSoft values' sizes.
+-- Every cost is at most the sum of the soft values' magnitudes.
 use mathlib.Core.Path.{_≡_, refl}
 use mathlib.Core.List.{List, [], _∷_, _++_}
-use Prim.Native.Nat.{ℕ, zero, suc, _+_, _-_, _/_, _%_, _^_, _<_, _≤_}
+use Prim.Native.Nat.{ℕ, zero, suc, _+_, _-_, _^_, _<_, _≤_}
 use native.Mathlib.Omega.{arith}
 use lib.ListN.{length, take}
 use lib.IntN.{ℤ, pos, negsuc, natAbs}
 use Rattle.spec.specs.Transform.{evens, odds, transform}
 use Rattle.laws.specs.Cost.{bitCost, wordCost, magnitude, leastCost, cost}
 use Rattle.laws.specs.Windows.{win}
-use Rattle.laws.specs.Nodes.{cut, node, node-even, node-odd, nodeSoft, by-child}
-use Rattle.laws.specs.Cells.{Cell, Good}
+use Rattle.laws.specs.Nodes.{node, node-even, node-odd, nodeSoft, by-child}
 
 pub bitCost-le : (y : ℤ) (c : ℕ) → bitCost y c ≤ natAbs y
 bitCost-le (pos n) zero = omega arith
@@ -46,6 +45,3 @@ magnitude-nodeSoft zero y i h = omega arith
 magnitude-nodeSoft (suc d) y i h = by-child (λ i. magnitude (nodeSoft (suc d) y i) ≤ magnitude y) d
     (λ j l. rw (node-even evens odds d y j l) (omega (arith, magnitude-halves (nodeSoft d y j), magnitude-nodeSoft d y j l)))
     (λ j l. rw (node-odd evens odds d y j) (omega (arith, magnitude-halves (nodeSoft d y j), magnitude-nodeSoft d y j l))) i h
-
-pub costs-le : (m : ℕ) (y : List ℤ) (v : List ℕ) (c : Cell) → Good m y v c → (x : ℕ) → x < 16 → c .costs x ≤ magnitude y
-costs-le m y v c g x h = omega (arith, g .costs-are x h, win-le m y (cut v) (x % 2 ∷ x / 2 % 2 ∷ x / 4 % 2 ∷ x / 8 % 2 ∷ []))

@@ -1,36 +1,17 @@
--- More rules of `cost`: one more bit, the layer rule at an even prefix, a fast way to compute it, and where the layers' entries are.
+-- One more bit of a prefix, and where the entries of the halves of a word stand in it.
 use mathlib.Core.Path.{_≡_, refl}
 use mathlib.Core.List.{List, [], _∷_, _++_}
 use Prim.Native.Nat.{ℕ, zero, suc, _+_, _-_, _^_, _<_}
 use native.Mathlib.Omega.{arith}
-use native.Mathlib.Nat.{le-of-suc-le-suc}
 use lib.ListN.{length, length-append, getD}
 use lib.IntN.{ℤ}
 use Rattle.spec.specs.Bits.{_⊕_}
-use Rattle.spec.specs.Transform.{inputA, inputB, evens, odds}
+use Rattle.spec.specs.Transform.{evens, odds}
 use Rattle.laws.specs.Cost.{leastCost, cost}
 pub use Rattle.laws.specs.BitLaws.{⊕-mod, ⊕-xor}
 use Rattle.laws.specs.Layer.{least, double, layer}
 
--- ---- entry i of a layer
-pub getD-inputA : (u : List ℕ) (i : ℕ) → i < length (inputA u)
-    → getD (inputA u) i 0 ≡ getD u (double i) 0 ⊕ (getD u (suc (double i)) 0 ⊕ getD u (suc (suc (double i))) 0)
-getD-inputA [] i h = absurd (omega arith)
-getD-inputA (x ∷ []) i h = absurd (omega arith)
-getD-inputA (x ∷ y ∷ []) zero h = refl
-getD-inputA (x ∷ y ∷ []) (suc i) h = absurd (omega arith)
-getD-inputA (x ∷ y ∷ z ∷ r) zero h = refl
-getD-inputA (x ∷ y ∷ z ∷ r) (suc i) h = getD-inputA (z ∷ r) i (le-of-suc-le-suc h)
-
-pub getD-inputB : (u : List ℕ) (i : ℕ) → i < length (inputB u)
-    → getD (inputB u) i 0 ≡ getD u (suc (double i)) 0 ⊕ getD u (suc (suc (double i))) 0
-getD-inputB [] i h = absurd (omega arith)
-getD-inputB (x ∷ []) i h = absurd (omega arith)
-getD-inputB (x ∷ y ∷ []) zero h = refl
-getD-inputB (x ∷ y ∷ []) (suc i) h = absurd (omega arith)
-getD-inputB (x ∷ y ∷ z ∷ r) zero h = refl
-getD-inputB (x ∷ y ∷ z ∷ r) (suc i) h = getD-inputB (z ∷ r) i (le-of-suc-le-suc h)
-
+-- ---- entry i of a half
 module _ {ℓ} {A : Type ℓ} where
   pub getD-evens : (y : List A) (i : ℕ) (d : A) → getD (evens y) i d ≡ getD y (double i) d
   getD-evens [] i d = refl

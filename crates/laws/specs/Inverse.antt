@@ -28,14 +28,14 @@ interleave-places zero (x ∷ r) e = absurd (omega (arith, e))
 interleave-places (suc n) (x ∷ []) e = absurd (omega (arith, e))
 interleave-places (suc n) (x ∷ y ∷ r) e = ap (λ (l : List ℕ). x ∷ y ∷ l) (interleave-places n r (suc-inj (suc-inj e)))
 
-pub length-evens : (n : ℕ) (c : List ℕ) → length c ≡ double n → length (evens c) ≡ n
+pub length-evens : {A : Type 0} (n : ℕ) (c : List A) → length c ≡ double n → length (evens c) ≡ n
 length-evens zero [] e = refl
 length-evens (suc n) [] e = absurd (omega (arith, e))
 length-evens zero (x ∷ r) e = absurd (omega (arith, e))
 length-evens (suc n) (x ∷ []) e = absurd (omega (arith, e))
 length-evens (suc n) (x ∷ y ∷ r) e = ap suc (length-evens n r (suc-inj (suc-inj e)))
 
-pub length-odds : (n : ℕ) (c : List ℕ) → length c ≡ double n → length (odds c) ≡ n
+pub length-odds : {A : Type 0} (n : ℕ) (c : List A) → length c ≡ double n → length (odds c) ≡ n
 length-odds zero [] e = refl
 length-odds (suc n) [] e = absurd (omega (arith, e))
 length-odds zero (x ∷ r) e = absurd (omega (arith, e))

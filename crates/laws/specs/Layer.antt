@@ -180,12 +180,6 @@ module _ (m : ℕ) (y : List ℤ) where
 
 -- ---- the layer rule for `cost`
 
-pub odd-of-length : (i : ℕ) (w : List ℕ) → length w ≡ suc (2 * i) → Odd w
-odd-of-length i [] e = omega arith
-odd-of-length i (x ∷ []) e = tt
-odd-of-length zero (x ∷ z ∷ r) e = absurd (omega arith)
-odd-of-length (suc i) (x ∷ z ∷ r) e = odd-of-length i r (omega arith)
-
 pub length-odd : (w : List ℕ) → Odd w → length w ≡ suc (2 * half (length w))
 length-odd [] o = absurd o
 length-odd (x ∷ []) o = refl

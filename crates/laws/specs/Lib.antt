@@ -9,8 +9,8 @@ pub mod Cells
 pub mod Bounds
 pub mod ListCost
 pub mod Inverse
+pub mod Soft
 pub mod FirstFault
 pub mod MapBits
 pub mod FrozenMap
 pub mod Accepted
-pub mod Soft

@@ -1,10 +1,10 @@
--- The nodes of the layers: their nodeSoft values, their decided prefixes, and how these grow bit by bit.
+-- The nodes of the layers: their soft values, their decided prefixes, and how these grow bit by bit.
 use mathlib.Core.Path.{_≡_, refl, sym, ap, ap₂, subst, _∙_}
 use mathlib.Core.Bool.{Bool, true, false, not, cond}
 use mathlib.Core.List.{List, [], _∷_, _++_}
 use Prim.Native.Nat.{ℕ, zero, suc, _+_, _-_, _*_, _/_, _%_, _^_, _<_, _≤_}
 use native.Mathlib.Omega.{arith}
-use native.Mathlib.Nat.{zero-add, div-one, div-div-eq-div-mul, pow-suc}
+use native.Mathlib.Nat.{zero-add}
 use lib.ListN.{length}
 use lib.IntN.{ℤ}
 use lib.Dec.{T, ltb, ltb→lt, lt→ltb, nltb→le}
@@ -246,65 +246,6 @@ bits-nodePrefix (suc d) w i h t = by-child (λ i. Bits (nodePrefix (suc d) w i))
     (λ j l. rw (node-even childA childB d w j l) (bits-inputA (bits-cut (bits-nodePrefix d w j l t))))
     (λ j l. rw (node-odd childA childB d w j) (bits-inputB (bits-cut (bits-nodePrefix d w j l t)))) i h
 
--- ---- one more bit, over the tree
-
--- the new bit of each node, from the parents' pairSum and oddLast
-module _ (p q : ℕ → ℕ → ℕ) (b : ℕ) where
-  unfoldable pub new : ℕ → ℕ → ℕ
-  new zero i = b
-  new (suc d) i = cond (ltb i (2 ^ d)) (p d i ⊕ new d i) (q d (i - 2 ^ d) ⊕ new d (i - 2 ^ d))
-
-  pub new-even : (d i : ℕ) → i < 2 ^ d → new (suc d) i ≡ p d i ⊕ new d i
-  unfolding new
-  new-even d i h = ap (λ (c : Bool). cond c (p d i ⊕ new d i) (q d (i - 2 ^ d) ⊕ new d (i - 2 ^ d))) (is-true (ltb i (2 ^ d)) (lt→ltb i (2 ^ d) h))
-
-  pub new-odd : (d i : ℕ) → new (suc d) (i + 2 ^ d) ≡ q d i ⊕ new d i
-  unfolding new
-  new-odd d i =
-      let e : i + 2 ^ d - 2 ^ d ≡ i = omega arith in
-      ap (λ (c : Bool). cond c (p d (i + 2 ^ d) ⊕ new d (i + 2 ^ d)) (q d (i + 2 ^ d - 2 ^ d) ⊕ new d (i + 2 ^ d - 2 ^ d)))
-      (is-false (ltb (i + 2 ^ d) (2 ^ d)) (le→nltb (i + 2 ^ d) (2 ^ d) (omega arith)))
-      ∙ ap (λ (j : ℕ). q d j ⊕ new d j) e
-
-  module _ (D : ℕ) (w : List ℕ) (t : Bits w)
-      (pq : (d i : ℕ) → d < D → i < 2 ^ d → kind (phase d (length w)) ≡ even → (p d i ≡ pairSum (nodePrefix d w i)) × (q d i ≡ oddLast (nodePrefix d w i))) where
-    -- the node's prefix grows by its new bit, where the layer moves
-    abbrev Grows : ℕ → ℕ → Type 0
-    Grows d i = nodePrefix d (w ++ b ∷ []) i ≡ cond (moves d (length w)) (nodePrefix d w i ++ new d i ∷ []) (nodePrefix d w i)
-
-    grows-even : (d j : ℕ) → d < D → j < 2 ^ d → Grows d j → Grows (suc d) j
-    grows-even d j g l ih =
-        rw (node-even childA childB d (w ++ b ∷ []) j l, node-even childA childB d w j l, new-even d j l, ih) (go (moves d (length w)))
-      where
-        v : List ℕ
-        v = nodePrefix d w j
-
-        lv : length v ≡ phase d (length w)
-        lv = length-nodePrefix d w j l
-
-        go : (c : Bool) → childA (cond c (v ++ new d j ∷ []) v) ≡ cond (cond c (isEven (kind (phase d (length w)))) false) (childA v ++ (p d j ⊕ new d j) ∷ []) (childA v)
-        go true = rw lv at (childA-step v (new d j) (p d j) (bits-nodePrefix d w j l t) (λ e. pq d j g l (ap kind (sym lv) ∙ e) .0))
-        go false = refl
-
-    grows-odd : (d j : ℕ) → d < D → j < 2 ^ d → Grows d j → Grows (suc d) (j + 2 ^ d)
-    grows-odd d j g l ih =
-        rw (node-odd childA childB d (w ++ b ∷ []) j, node-odd childA childB d w j, new-odd d j, ih) (go (moves d (length w)))
-      where
-        v : List ℕ
-        v = nodePrefix d w j
-
-        lv : length v ≡ phase d (length w)
-        lv = length-nodePrefix d w j l
-
-        go : (c : Bool) → childB (cond c (v ++ new d j ∷ []) v) ≡ cond (cond c (isEven (kind (phase d (length w)))) false) (childB v ++ (q d j ⊕ new d j) ∷ []) (childB v)
-        go true = rw lv at (childB-step v (new d j) (q d j) (λ e. pq d j g l (ap kind (sym lv) ∙ e) .1))
-        go false = refl
-
-    pub nodePrefix-step : (d i : ℕ) → d ≤ D → i < 2 ^ d → nodePrefix d (w ++ b ∷ []) i ≡ cond (moves d (length w)) (nodePrefix d w i ++ new d i ∷ []) (nodePrefix d w i)
-    nodePrefix-step zero i g h = unfold node new in refl
-    nodePrefix-step (suc d) i g h = by-child (Grows (suc d)) d
-        (λ j l. grows-even d j g l (nodePrefix-step d j (omega arith) l)) (λ j l. grows-odd d j g l (nodePrefix-step d j (omega arith) l)) i h
-
 -- ---- lengths
 down-le : (n k : ℕ) → n ≤ 2 * k → down n ≤ k
 down-le zero k h = omega arith
@@ -317,12 +258,6 @@ phase-le (suc d) k n h =
     let h′ : n ≤ 2 ^ (d + suc k) = rw e at h in
     down-le (phase d n) (2 ^ k) (omega (arith, phase-le d (suc k) n h′))
 
-pub kind-odd : (v : List ℕ) → Odd v → kind (length v) ≡ odd
-kind-odd [] o = absurd o
-kind-odd (x ∷ []) o = refl
-kind-odd (x ∷ y ∷ []) o = absurd o
-kind-odd (x ∷ y ∷ z ∷ r) o = kind-odd (z ∷ r) o
-
 pub odd-not-even : odd ≡ even → ⊥
 odd-not-even e = let z : _≡_ {A = ℕ} 0 1 = ap num e in omega arith
   where
@@ -330,6 +265,12 @@ odd-not-even e = let z : _≡_ {A = ℕ} 0 1 = ap num e in omega arith
     num none = 0
     num odd = 0
     num even = 1
+
+-- a prefix of an odd phase
+pub odd-shape : {k : Kind} {v : List ℕ} → Shape k v → k ≡ odd → Odd v
+odd-shape s-none e = let z : _≡_ {A = ℕ} 0 1 = cc in absurd (omega arith)
+odd-shape (s-odd v o) e = o
+odd-shape (s-even v b o) e = absurd (odd-not-even (sym e))
 
 pub none-not-even : none ≡ even → ⊥
 none-not-even e = let z : _≡_ {A = ℕ} 0 1 = ap num e in omega arith
@@ -343,23 +284,6 @@ pub nodePrefix-nil : (d i : ℕ) → i < 2 ^ d → nodePrefix d [] i ≡ []
 nodePrefix-nil zero i h = unfold node in refl
 nodePrefix-nil (suc d) i h = by-child (λ i. nodePrefix (suc d) [] i ≡ []) d
     (λ j l. node-even childA childB d [] j l ∙ ap childA (nodePrefix-nil d j l)) (λ j l. node-odd childA childB d [] j ∙ ap childB (nodePrefix-nil d j l)) i h
-
--- ---- closed forms: a layer's phase is (n + 1) / 2 ^ d - 1, and a layer moves where its phase does
-half-pred : (q : ℕ) → (q - 1 - 1) / 2 ≡ q / 2 - 1
-half-pred q = omega arith
-
-pub phase-is : (d n : ℕ) → phase d n ≡ (n + 1) / 2 ^ d - 1
-phase-is zero n = rw div-one (omega arith)
-phase-is (suc d) n =
-    ap down (phase-is d n) ∙ down-is ((n + 1) / 2 ^ d - 1) ∙ half-pred ((n + 1) / 2 ^ d)
-    ∙ ap (λ (q : ℕ). q - 1) (div-div-eq-div-mul (n + 1) (2 ^ d) 2 ∙ ap (λ (p : ℕ). (n + 1) / p) (sym (pow-suc 2 d)))
-
-pub moves-is : (d n : ℕ) → moves d n ≡ ltb (phase d n) (phase d (suc n))
-moves-is d n = rw (phase-suc d n) (go (moves d n))
-  where
-    go : (c : Bool) → c ≡ ltb (phase d n) (cond c (suc (phase d n)) (phase d n))
-    go true = sym (is-true (ltb (phase d n) (suc (phase d n))) (lt→ltb (phase d n) (suc (phase d n)) (omega arith)))
-    go false = sym (is-false (ltb (phase d n) (phase d n)) (le→nltb (phase d n) (phase d n) (omega arith)))
 
 -- a phase's kind, by tests that code can make
 pub kind-of-odd : (n : ℕ) → n % 2 ≡ 1 → kind n ≡ odd

@@ -4,7 +4,7 @@ use mathlib.Core.Bool.{Bool, true, false, _||_, true≢false}
 use mathlib.Core.List.{List, [], _∷_}
 use Prim.Native.Nat.{ℕ, zero, suc, _+_, _*_, _^_, _<_, _≤_}
 use native.Mathlib.Omega.{arith}
-use native.Mathlib.Nat.{zero-add, mul-assoc, mul-comm, mul-add, pow-suc}
+use native.Mathlib.Nat.{zero-add, mul-assoc, mul-comm}
 use lib.ListN.{length, getD}
 use lib.IntN.{ℤ, pos, natAbs}
 use borrow.Author.Tests.{ltb-false}
@@ -12,8 +12,9 @@ use Rattle.spec.specs.Transform.{evens, odds}
 use Rattle.spec.specs.Faults.{some}
 use Rattle.spec.specs.Refusals.{tooLarge}
 use Rattle.laws.specs.Cost.{magnitude}
-use Rattle.laws.specs.Layer.{double, double-is}
+use Rattle.laws.specs.Layer.{double, double-is, pow-double}
 use Rattle.laws.specs.Entries.{getD-evens, getD-odds}
+use Rattle.laws.specs.Inverse.{length-evens, length-odds}
 use Rattle.laws.specs.Nodes.{node, node-even, node-odd, nodeSoft, by-child}
 
 -- ---- node i of depth d has the values at i, i + 2 ^ d, i + 2 * 2 ^ d, ..
@@ -41,26 +42,13 @@ getD-nodeSoft (suc d) y i k h = by-child (λ i. getD (nodeSoft (suc d) y i) k (p
     two : (j : ℕ) → j + 2 * 2 ^ d * k ≡ j + 2 ^ suc d * k
     two j = let e : 2 ^ suc d ≡ 2 * 2 ^ d = omega arith in rw e
 
-length-evens : (n : ℕ) (y : List ℤ) → length y ≡ 2 * n → length (evens y) ≡ n
-length-evens zero [] e = refl
-length-evens (suc n) [] e = absurd (omega arith)
-length-evens n (x ∷ []) e = absurd (omega arith)
-length-evens zero (x ∷ z ∷ y) e = absurd (omega arith)
-length-evens (suc n) (x ∷ z ∷ y) e = ap suc (length-evens n y (omega arith))
-
-length-odds : (n : ℕ) (y : List ℤ) → length y ≡ 2 * n → length (odds y) ≡ n
-length-odds zero [] e = refl
-length-odds (suc n) [] e = absurd (omega arith)
-length-odds n (x ∷ []) e = absurd (omega arith)
-length-odds zero (x ∷ z ∷ y) e = absurd (omega arith)
-length-odds (suc n) (x ∷ z ∷ y) e = ap suc (length-odds n y (omega arith))
-
 pub length-nodeSoft : (d k : ℕ) (y : List ℤ) (i : ℕ) → i < 2 ^ d → length y ≡ 2 ^ (d + k) → length (nodeSoft d y i) ≡ 2 ^ k
 unfolding node
 length-nodeSoft zero k y i h e = rw zero-add at e
 length-nodeSoft (suc d) k y i h e =
     let z : suc d + k ≡ d + suc k = omega arith in
-    let above : (j : ℕ) → j < 2 ^ d → length (nodeSoft d y j) ≡ 2 * 2 ^ k = λ j l. length-nodeSoft d (suc k) y j l (e ∙ ap (λ (m : ℕ). 2 ^ m) z) ∙ (omega arith) in
+    let above : (j : ℕ) → j < 2 ^ d → length (nodeSoft d y j) ≡ double (2 ^ k)
+    = λ j l. length-nodeSoft d (suc k) y j l (e ∙ ap (λ (m : ℕ). 2 ^ m) z) ∙ pow-double k in
     by-child (λ i. length (nodeSoft (suc d) y i) ≡ 2 ^ k) d
     (λ j l. ap length (node-even evens odds d y j l) ∙ length-evens (2 ^ k) (nodeSoft d y j) (above j l))
     (λ j l. ap length (node-odd evens odds d y j) ∙ length-odds (2 ^ k) (nodeSoft d y j) (above j l)) i h

@@ -4,7 +4,7 @@ use mathlib.Core.Bool.{Bool, true, false, not}
 use mathlib.Core.List.{List, [], _∷_, _++_, append-assoc}
 use Prim.Native.Nat.{ℕ, zero, suc, _+_, _-_, _*_, _/_, _%_, _^_, _<_, _≤_, min}
 use native.Mathlib.Omega.{arith}
-use native.Mathlib.Nat.{mod-eq-of-lt, div-div-eq-div-mul}
+use native.Mathlib.Nat.{div-div-eq-div-mul}
 use lib.ListN.{length, length-append, take}
 use lib.Seq.{take-all, take-append-le}
 use lib.IntN.{ℤ}
@@ -221,12 +221,6 @@ module _ (y : List ℤ) where
   base-3 u₀ u₁ u₂ x₁ x₂ x₃ x₄ = refl
 
 -- ---- packed: a window's bits as a number, the first bit lowest
-abbrev pub bits4 : ℕ → List ℕ
-bits4 x = x % 2 ∷ x / 2 % 2 ∷ x / 4 % 2 ∷ x / 8 % 2 ∷ []
-
-abbrev pub bits3 : ℕ → List ℕ
-bits3 x = x % 2 ∷ x / 2 % 2 ∷ x / 4 % 2 ∷ []
-
 abbrev pub pack4 : ℕ → ℕ → ℕ → ℕ → ℕ
 pack4 a b c d = a + 2 * b + 4 * c + 8 * d
 
@@ -252,19 +246,7 @@ split-2 q = omega arith
 div-div : (x : ℕ) (k : ℕ) → x / k % 2 + 2 * (x / (k * 2)) ≡ x / k
 div-div x k = rw (← div-div-eq-div-mul x k 2) (split-2 (x / k))
 
-pub pack-at4 : (x : ℕ) → x < 16 → pack4 (x % 2) (x / 2 % 2) (x / 4 % 2) (x / 8 % 2) ≡ x
-pack-at4 x h =
-    let l₈ : x / 8 < 2 = omega arith in
-    let d₁ : x % 2 + 2 * (x / 2) ≡ x = omega arith in
-    let d₂ : x / 2 % 2 + 2 * (x / 4) ≡ x / 2 = div-div x 2 in
-    let d₃ : x / 4 % 2 + 2 * (x / 8) ≡ x / 4 = div-div x 4 in
-    let d₄ : x / 8 % 2 ≡ x / 8 = mod-eq-of-lt l₈ in
-    omega arith
-
 -- ---- the base, packed
-abbrev pub win4 : ℕ → List ℤ → List ℕ → ℕ → ℕ
-win4 m y v x = win m y v (bits4 x)
-
 abbrev pub F : List ℤ → ℕ → ℕ
 F y = at4 (F4 y)
 
@@ -276,61 +258,16 @@ mod-8 x =
     let d₈ : x % 8 + 8 * (x / 8) ≡ x = omega arith in
     omega arith
 
-pub base-1-packed : (y : List ℤ) (u₀ x : ℕ) → u₀ < 2 → win4 2 y (u₀ ∷ []) x ≡ F y (u₀ + 2 * (x % 8))
+pub base-1-packed : (y : List ℤ) (u₀ x : ℕ) → u₀ < 2 → at4 (W4 2 y (u₀ ∷ [])) x ≡ F y (u₀ + 2 * (x % 8))
 base-1-packed y u₀ x h =
     let e : u₀ + 2 * (x % 8) ≡ pack4 u₀ (x % 2) (x / 2 % 2) (x / 4 % 2) = omega (arith, mod-8 x) in
     base-1 y u₀ (x % 2) (x / 2 % 2) (x / 4 % 2) (x / 8 % 2)
     ∙ sym (ap (F y) e ∙ at4-pack (F4 y) u₀ (x % 2) (x / 2 % 2) (x / 4 % 2) h (omega arith) (omega arith) (omega arith))
 
-pub base-3-packed : (y : List ℤ) (u₀ u₁ u₂ x : ℕ) → u₀ < 2 → u₁ < 2 → u₂ < 2 → win4 2 y (u₀ ∷ u₁ ∷ u₂ ∷ []) x ≡ F y (u₀ + 2 * u₁ + 4 * u₂ + 8 * (x % 2))
+pub base-3-packed : (y : List ℤ) (u₀ u₁ u₂ x : ℕ) → u₀ < 2 → u₁ < 2 → u₂ < 2 → at4 (W4 2 y (u₀ ∷ u₁ ∷ u₂ ∷ [])) x ≡ F y (u₀ + 2 * u₁ + 4 * u₂ + 8 * (x % 2))
 base-3-packed y u₀ u₁ u₂ x h₀ h₁ h₂ =
     base-3 y u₀ u₁ u₂ (x % 2) (x / 2 % 2) (x / 4 % 2) (x / 8 % 2) ∙ sym (at4-pack (F4 y) u₀ u₁ u₂ (x % 2) h₀ h₁ h₂ (omega arith))
 
--- ---- the rules, packed
-abbrev pub win3 : ℕ → List ℤ → List ℕ → ℕ → ℕ
-win3 m y v x = win m y v (bits3 x)
-
+-- ---- three bits as a number
 abbrev pub pack3 : ℕ → ℕ → ℕ → ℕ
 pack3 a b c = a + 2 * b + 4 * c
-
-abbrev pub at3 : (ℕ → ℕ → ℕ → ℕ) → ℕ → ℕ
-at3 f x = f (x % 2) (x / 2 % 2) (x / 4 % 2)
-
-pub at3-pack : (f : ℕ → ℕ → ℕ → ℕ) (a b c : ℕ) → a < 2 → b < 2 → c < 2 → at3 f (pack3 a b c) ≡ f a b c
-at3-pack f a b c ha hb hc =
-    let x : ℕ = a + 2 * b + 4 * c in
-    let q₂ : x / 2 ≡ b + 2 * c = omega arith in
-    let q₄ : x / 4 ≡ c = omega arith in
-    let e₁ : x % 2 ≡ a = omega arith in
-    let e₂ : x / 2 % 2 ≡ b = rw q₂ (omega arith) in
-    let e₃ : x / 4 % 2 ≡ c = rw q₄ (omega arith) in
-    cc
-
-pack-at3 : (x : ℕ) → x < 8 → x ≡ pack3 (x % 2) (x / 2 % 2) (x / 4 % 2)
-pack-at3 x h =
-    let e : x % 8 ≡ x = mod-eq-of-lt h in
-    omega (arith, mod-8 x)
-
-module _ (m : ℕ) (y : List ℤ) (v : List ℕ) where
-  pub win3-odd-packed : (c : ℕ) → c < 8 → win3 m y v c ≡ min (win4 m y v c) (win4 m y v (c + 8))
-  win3-odd-packed c h =
-      let e₀ : c ≡ pack4 (c % 2) (c / 2 % 2) (c / 4 % 2) 0 = omega (arith, pack-at3 c h) in
-      let e₁ : c + 8 ≡ pack4 (c % 2) (c / 2 % 2) (c / 4 % 2) 1 = omega (arith, pack-at3 c h) in
-      let at : (t : ℕ) → t < 2 → at4 (W4 m y v) (pack4 (c % 2) (c / 2 % 2) (c / 4 % 2) t) ≡ W4 m y v (c % 2) (c / 2 % 2) (c / 4 % 2) t
-      = λ t ht. at4-pack (W4 m y v) (c % 2) (c / 2 % 2) (c / 4 % 2) t (omega arith) (omega arith) (omega arith) ht in
-      win3-odd m y v (c % 2) (c / 2 % 2) (c / 4 % 2)
-      ∙ ap₂ min (sym (ap (at4 (W4 m y v)) e₀ ∙ at 0 (omega arith))) (sym (ap (at4 (W4 m y v)) e₁ ∙ at 1 (omega arith)))
-
-  pub win3-even-packed : (o c : ℕ) → o < 2 → c < 8 → win3 m y (v ++ o ∷ []) c ≡ win4 m y v (o + 2 * c)
-  win3-even-packed o c ho h =
-      let e : o + 2 * c ≡ pack4 o (c % 2) (c / 2 % 2) (c / 4 % 2) = omega (arith, pack-at3 c h) in
-      win3-even m y v o (c % 2) (c / 2 % 2) (c / 4 % 2)
-      ∙ sym (ap (at4 (W4 m y v)) e ∙ at4-pack (W4 m y v) o (c % 2) (c / 2 % 2) (c / 4 % 2) ho (omega arith) (omega arith) (omega arith))
-
-pub win4-op : (m : ℕ) (y : List ℤ) (v : List ℕ) → Odd v → length v < 2 ^ suc m → (x : ℕ)
-    → win4 (suc m) y v x ≡ at4 (mask4 (2 ^ suc m - length v) (op4 (W3 m (evens y) (inputA v)) (W3 m (odds y) (inputB v)) (last v))) x
-win4-op m y v o h x = win-op m y v o h (x % 2) (x / 2 % 2) (x / 4 % 2) (x / 8 % 2)
-
-pub win4-start : (m : ℕ) (y : List ℤ) → 2 ≤ m → (x : ℕ)
-    → win4 (suc m) y [] x ≡ at4 (λ x₁ x₂ x₃ x₄. least (λ f. op4 (W3 m (evens y) []) (W3 m (odds y) []) x₁ x₂ x₃ x₄ f)) x
-win4-start m y h x = win-start m y h (x % 2) (x / 2 % 2) (x / 4 % 2) (x / 8 % 2)

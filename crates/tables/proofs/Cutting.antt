@@ -1,4 +1,4 @@
--- The cut of slot numbers. Assumes nothing.
+-- The cut of slot numbers, and what it means for the prefixes that the ranks stand for.
 use mathlib.Core.Path.{_≡_, refl, sym, ap, _∙_}
 use mathlib.Core.Logic.{_⊎_, ⊎-elim}
 use mathlib.Core.List.{List}
@@ -11,14 +11,17 @@ use Rattle.windows.specs.Op.{Wrote}
 use Rattle.tables.specs.Right.{AllRight}
 use Rattle.tables.specs.Walk.{slotW, slotO, Named}
 use Rattle.tables.specs.Cut.{parent, CutRows, CutSlots}
-use Rattle.tables.proofs.Laws.{lt-or-le}
+use Rattle.tables.proofs.Places.{lt-or-le}
 
 -- ---- a row
-pub row-cut : (parents slots slots′ row row′ : List ℕ) (at count : ℕ) → Wrote (λ r. getD slots (at + r) 0) 0 32 row row′
-    → Wrote (λ r. getD row′ (parent parents r) 0) at count slots slots′ → Wrote (λ r. getD slots (at + parent parents r) 0) at count slots slots′
+pub row-cut : (parents slots slots′ row row′ : List ℕ) (at count : ℕ)
+    → Wrote (λ r. getD slots (at + r) 0) 0 32 row row′
+    → Wrote (λ r. getD row′ (parent parents r) 0) at count slots slots′
+    → Wrote (λ r. getD slots (at + parent parents r) 0) at count slots slots′
 row-cut parents slots slots′ row row′ at count a b = record {
   same = b .same;
-  inside = λ r h. b .inside r h ∙ ap (λ (k : ℕ). getD row′ k 0) (sym (zero-add (parent parents r))) ∙ a .inside (parent parents r) (omega arith);
+  inside = λ r h. b .inside r h ∙ ap (λ (k : ℕ). getD row′ k 0) (sym (zero-add (parent parents r)))
+      ∙ a .inside (parent parents r) (omega arith);
   below = b .below;
   above = b .above;
 }
@@ -34,7 +37,8 @@ cut-none from count parents slots = record {
 }
 
 pub cut-more : (from d count : ℕ) (parents s s′ s″ : List ℕ) → count ≤ 32 → CutRows from d count parents s s′
-    → Wrote (λ r. getD s′ (from + 32 * d + parent parents r) 0) (from + 32 * d) count s′ s″ → CutRows from (d + 1) count parents s s″
+    → Wrote (λ r. getD s′ (from + 32 * d + parent parents r) 0) (from + 32 * d) count s′ s″
+    → CutRows from (d + 1) count parents s s″
 cut-more from d count parents s s′ s″ few a b = record {
   same = b .same ∙ a .same;
   moved = λ e r he hr. ⊎-elim
@@ -50,11 +54,13 @@ cut-more from d count parents s s′ s″ few a b = record {
 }
 
 -- both kinds of numbers
-pub cut-both : (deep count : ℕ) (parents s s′ s″ : List ℕ) → deep ≤ 8 → count ≤ 32 → CutRows 0 (deep + 1) count parents s s′ → CutRows 512 (deep + 1) count parents s′ s″
+pub cut-both : (deep count : ℕ) (parents s s′ s″ : List ℕ) → deep ≤ 8 → count ≤ 32
+    → CutRows 0 (deep + 1) count parents s s′ → CutRows 512 (deep + 1) count parents s′ s″
     → CutSlots deep count parents s s″
 cut-both deep count parents s s′ s″ hd few a b = record {
   same = b .same ∙ a .same;
-  windows = λ d r h hr. b .below (32 * d + r) (omega arith) ∙ at d r (parent parents r) (a .moved d r (omega arith) hr);
+  windows = λ d r h hr. b .below (32 * d + r) (omega arith)
+      ∙ at d r (parent parents r) (a .moved d r (omega arith) hr);
   odds = λ d r h hr. b .moved d r (omega arith) hr ∙ a .above (512 + 32 * d + parent parents r) (omega arith);
   windows-stay = λ d r h hr. ⊎-elim
       (λ (q : deep < d). b .below (32 * d + r) (omega arith) ∙ a .above (32 * d + r) (omega arith))
@@ -64,17 +70,22 @@ cut-both deep count parents s s′ s″ hd few a b = record {
       (λ (q : count ≤ r). odd-stay d r q hr);
 }
   where
-    at : (d r p : ℕ) → getD s′ (0 + 32 * d + r) 0 ≡ getD s (0 + 32 * d + p) 0 → getD s′ (32 * d + r) 0 ≡ getD s (32 * d + p) 0
+    at : (d r p : ℕ) → getD s′ (0 + 32 * d + r) 0 ≡ getD s (0 + 32 * d + p) 0
+        → getD s′ (32 * d + r) 0 ≡ getD s (32 * d + p) 0
     at d r p e = rw (zero-add (32 * d)) at e
 
     stay : (d r : ℕ) → count ≤ r → r < 32 → getD s′ (32 * d + r) 0 ≡ getD s (32 * d + r) 0
-    stay d r q hr = ⊎-elim (λ (h : d < deep + 1). at d r r (a .stays d r h q hr)) (λ (h : deep + 1 ≤ d). a .above (32 * d + r) (omega arith)) (lt-or-le d (deep + 1))
+    stay d r q hr = ⊎-elim (λ (h : d < deep + 1). at d r r (a .stays d r h q hr))
+        (λ (h : deep + 1 ≤ d). a .above (32 * d + r) (omega arith)) (lt-or-le d (deep + 1))
 
     odd-stay : (d r : ℕ) → count ≤ r → r < 32 → getD s″ (512 + 32 * d + r) 0 ≡ getD s (512 + 32 * d + r) 0
-    odd-stay d r q hr = ⊎-elim (λ (h : d < deep + 1). b .stays d r h q hr) (λ (h : deep + 1 ≤ d). b .above (512 + 32 * d + r) (omega arith)) (lt-or-le d (deep + 1)) ∙ a .above (512 + 32 * d + r) (omega arith)
+    odd-stay d r q hr = ⊎-elim (λ (h : d < deep + 1). b .stays d r h q hr)
+        (λ (h : deep + 1 ≤ d). b .above (512 + 32 * d + r) (omega arith)) (lt-or-le d (deep + 1))
+        ∙ a .above (512 + 32 * d + r) (omega arith)
 
 -- each path its own parent: nothing is to be done
-pub cut-unmoved : (deep count : ℕ) (parents s : List ℕ) → count ≤ 32 → ((r : ℕ) → r < count → getD parents r 0 ≡ r) → CutSlots deep count parents s s
+pub cut-unmoved : (deep count : ℕ) (parents s : List ℕ) → count ≤ 32 → ((r : ℕ) → r < count → getD parents r 0 ≡ r)
+    → CutSlots deep count parents s s
 cut-unmoved deep count parents s few p = record {
   same = refl;
   windows = λ d r _ hr. ap (λ (k : ℕ). getD s (32 * d + k) 0) (own r hr);
@@ -98,11 +109,14 @@ module _ (deep oldCount count : ℕ) (parents slots slots′ : List ℕ) (old : 
   odd-of : (d r : ℕ) → d ≤ deep → r < count → slotO slots′ d r ≡ slotO slots d (getD parents r 0)
   odd-of d r hd hr = a .odds d r hd hr ∙ ap (slotO slots d) (parent-is r hr)
 
-  pub cut-right : (k d l h : ℕ) (y : List ℤ) (ws : ℕ → List ℕ) (t b : List ℕ) → d ≤ deep → AllRight k d l h oldCount y ws t b (slotW slots d) (slotO slots d)
+  pub cut-right : (k d l h : ℕ) (y : List ℤ) (ws : ℕ → List ℕ) (t b : List ℕ) → d ≤ deep
+      → AllRight k d l h oldCount y ws t b (slotW slots d) (slotO slots d)
       → AllRight k d l h count y (λ r. ws (getD parents r 0)) t b (slotW slots′ d) (slotO slots′ d)
-  cut-right k d l h y ws t b hd ready r hr = rw (window-of d r hd hr, odd-of d r hd hr) (ready (getD parents r 0) (known r hr))
+  cut-right k d l h y ws t b hd ready r hr
+      = rw (window-of d r hd hr, odd-of d r hd hr) (ready (getD parents r 0) (known r hr))
 
-  pub cut-named : (l : ℕ) → deep ≤ 8 → count ≤ 32 → 800 ≤ length slots → Named deep l oldCount slots → Named deep l count slots′
+  pub cut-named : (l : ℕ) → deep ≤ 8 → count ≤ 32 → 800 ≤ length slots → Named deep l oldCount slots
+      → Named deep l count slots′
   cut-named l hd few size n = record {
     windows = λ d h. record {
       there = omega (arith, a .same);

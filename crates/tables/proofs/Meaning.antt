@@ -1,39 +1,44 @@
--- What a pass writes is right for every path. Assumes nothing.
+-- A layer's pass makes its windows right for every path, where those below are.
 use mathlib.Core.Path.{_≡_, refl, _∙_, sym, ap, ap₂, subst}
 use mathlib.Core.Bool.{Bool}
 use mathlib.Core.List.{List, [], _∷_}
-use Prim.Native.Nat.{ℕ, zero, suc, _+_, _*_, _-_, _/_, _%_, _<_, _≤_, _^_, min}
-use native.Mathlib.Nat.{mod-eq-of-lt, eq-or-lt-of-le}
-use mathlib.Core.Logic.{_⊎_, inl, inr}
+use Prim.Native.Nat.{ℕ, suc, _+_, _*_, _-_, _/_, _%_, _<_, _≤_, _^_, min}
+use native.Mathlib.Nat.{mod-eq-of-lt}
 use native.Mathlib.Omega.{arith}
 use lib.ListN.{length, getD}
 use lib.IntN.{ℤ}
-use Rattle.spec.specs.Bits.{_⊕_}
 use Rattle.spec.specs.Transform.{inputA, inputB, evens, odds}
+use Rattle.spec.specs.Bits.{Bits}
 use Rattle.laws.specs.Cost.{last, magnitude}
 use Rattle.laws.specs.Layer.{Odd}
 use Rattle.laws.specs.Windows.{at4, pack4, op4, W3, W4, win-op}
-use Rattle.laws.specs.Nodes.{Kind, none, odd, even, kind, isEven, ⊕-lt, bits-last, bits-inputA, bits-inputB, bits-nodePrefix, Shape, s-none, s-odd, s-even, shape, cut-odd, childA, childB, odd-not-even, node-even, node-odd, nodeSoft, nodePrefix, length-nodePrefix, phase}
-use Rattle.spec.specs.Bits.{Bits}
-use Rattle.laws.specs.Cells.{Cell, Good, read3, read3-is, Same3, Same4, mask4-same}
+use Rattle.laws.specs.Nodes.{Kind, none, odd, even, kind, isEven, bits-last, bits-inputA, bits-inputB}
+use Rattle.laws.specs.Nodes.{bits-nodePrefix, shape, cut-odd, childA, childB, odd-not-even, node-even, node-odd}
+use Rattle.laws.specs.Nodes.{nodeSoft, nodePrefix, length-nodePrefix, phase, odd-shape}
+use Rattle.laws.specs.Cells.{Cell, Good, read3, read3-is, Same3, mask4-same, good-ext}
 use Rattle.laws.specs.Bounds.{win-le, magnitude-halves, magnitude-nodeSoft}
-use Rattle.laws.specs.Cells.{good-ext}
 use Rattle.windows.specs.Op.{tabAt, lift32, op4w, kindB}
 use Rattle.tables.specs.Tab.{slotStart, WroteRows, flat16, rowF}
 use Rattle.tables.specs.Right.{cellIn, Right, AllRight, Below}
-use Rattle.tables.proofs.Laws.{first-mono, first-apart, first-twice, place-is}
+use Rattle.tables.proofs.Operator.{op-full, op-same}
+use Rattle.tables.proofs.Places.{pow-two, slot-deep, slot-mono, slot-times}
 
 -- ---- one node
 -- three bits, read through the sixteen words and the odd bit of a cell that is right
-read-kind : (k : Kind) (ev : Bool) (c c′ : Cell) → ev ≡ isEven k → ((x : ℕ) → x < 16 → c′ .costs x ≡ c .costs x) → (k ≡ even → (c′ .oddBit ≡ c .oddBit) × (c .oddBit < 2)) → Same3 (read3 (kindB ev) c′) (read3 k c)
-read-kind none ev c c′ e t q x y z hx hy hz = rw e (ap₂ min (t (pack4 x y z 0) (omega arith)) (t (pack4 x y z 1) (omega arith)))
-read-kind odd ev c c′ e t q x y z hx hy hz = rw e (ap₂ min (t (pack4 x y z 0) (omega arith)) (t (pack4 x y z 1) (omega arith)))
+read-kind : (k : Kind) (ev : Bool) (c c′ : Cell) → ev ≡ isEven k → ((x : ℕ) → x < 16 → c′ .costs x ≡ c .costs x)
+    → (k ≡ even → (c′ .oddBit ≡ c .oddBit) × (c .oddBit < 2)) → Same3 (read3 (kindB ev) c′) (read3 k c)
+read-kind none ev c c′ e t q x y z hx hy hz
+    = rw e (ap₂ min (t (pack4 x y z 0) (omega arith)) (t (pack4 x y z 1) (omega arith)))
+read-kind odd ev c c′ e t q x y z hx hy hz
+    = rw e (ap₂ min (t (pack4 x y z 0) (omega arith)) (t (pack4 x y z 1) (omega arith)))
 read-kind even ev c c′ e t q x y z hx hy hz =
     let l : c .oddBit < 2 = q refl .1 in
     rw (e, q refl .0) (t (pack4 (c .oddBit) x y z) (omega arith))
 
-pub read-right : (m : ℕ) (y : List ℤ) (v : List ℕ) (c c′ : Cell) (ev : Bool) → Good m y v c → Bits v → ev ≡ isEven (kind (length v))
-    → ((x : ℕ) → x < 16 → c′ .costs x ≡ c .costs x) → c′ .oddBit ≡ c .oddBit % 2 → Same3 (read3 (kindB ev) c′) (W3 m y v)
+pub read-right : (m : ℕ) (y : List ℤ) (v : List ℕ) (c c′ : Cell) (ev : Bool) → Good m y v c → Bits v
+    → ev ≡ isEven (kind (length v))
+    → ((x : ℕ) → x < 16 → c′ .costs x ≡ c .costs x) → c′ .oddBit ≡ c .oddBit % 2
+    → Same3 (read3 (kindB ev) c′) (W3 m y v)
 read-right m y v c c′ ev g t e tt qq x₁ x₂ x₃ h₁ h₂ h₃ =
     read-kind (kind (length v)) ev c c′ e tt (λ ke.
     let q : c .oddBit ≡ last v = g .bits-are ke .1 in
@@ -41,51 +46,36 @@ read-right m y v c c′ ev g t e tt qq x₁ x₂ x₃ h₁ h₂ h₃ =
     (qq ∙ mod-eq-of-lt l, l)) x₁ x₂ x₃ h₁ h₂ h₃
     ∙ read3-is m y v c g t x₁ x₂ x₃ h₁ h₂ h₃
 
--- no sum wraps
-pub op-full : (f g : ℕ → ℕ → ℕ → ℕ) → ((a b c : ℕ) → f a b c < 2 ^ 31) → ((a b c : ℕ) → g a b c < 2 ^ 31) → (e a b c d : ℕ) → op4w f g e a b c d ≡ op4 f g e a b c d
-op-full f g p q e a b c d = ap₂ min (at 0) (at 1)
-  where
-    at : (t : ℕ) → (f (e ⊕ (a ⊕ b)) (b ⊕ (c ⊕ d)) (d ⊕ t) + g (a ⊕ b) (c ⊕ d) t) % 2 ^ 32 ≡ f (e ⊕ (a ⊕ b)) (b ⊕ (c ⊕ d)) (d ⊕ t) + g (a ⊕ b) (c ⊕ d) t
-    at t = mod-eq-of-lt (omega (arith, p (e ⊕ (a ⊕ b)) (b ⊕ (c ⊕ d)) (d ⊕ t), q (a ⊕ b) (c ⊕ d) t))
-
-pub op-same : (f f′ g g′ : ℕ → ℕ → ℕ → ℕ) (e : ℕ) → e < 2 → Same3 f f′ → Same3 g g′ → Same4 (op4w f g e) (op4w f′ g′ e)
-op-same f f′ g g′ e he p q a b c d ha hb hc hd = ap₂ min (at 0 (omega arith)) (at 1 (omega arith))
-  where
-    at : (t : ℕ) → t < 2 → (f (e ⊕ (a ⊕ b)) (b ⊕ (c ⊕ d)) (d ⊕ t) + g (a ⊕ b) (c ⊕ d) t) % 2 ^ 32 ≡ (f′ (e ⊕ (a ⊕ b)) (b ⊕ (c ⊕ d)) (d ⊕ t) + g′ (a ⊕ b) (c ⊕ d) t) % 2 ^ 32
-    at t ht = ap₂ (λ (u v : ℕ). (u + v) % 2 ^ 32) (p (e ⊕ (a ⊕ b)) (b ⊕ (c ⊕ d)) (d ⊕ t) (⊕-lt e (a ⊕ b) he) (⊕-lt b (c ⊕ d) hb) (⊕-lt d t hd))
-        (q (a ⊕ b) (c ⊕ d) t (⊕-lt a b ha) (⊕-lt c d hc) ht)
-
-module _ (m : ℕ) (y : List ℤ) (u : List ℕ) (o : Odd u) (t : Bits u) (h : length u < 2 ^ suc m) (small : magnitude y < 2 ^ 31) (ev : Bool) (ca cb : Cell)
-    (sa : Same3 (read3 (kindB ev) ca) (W3 m (evens y) (inputA u))) (sb : Same3 (read3 (kindB ev) cb) (W3 m (odds y) (inputB u))) where
+module _ (m : ℕ) (y : List ℤ) (u : List ℕ) (o : Odd u) (t : Bits u) (h : length u < 2 ^ suc m)
+    (small : magnitude y < 2 ^ 31) (ev : Bool) (ca cb : Cell)
+    (sa : Same3 (read3 (kindB ev) ca) (W3 m (evens y) (inputA u)))
+    (sb : Same3 (read3 (kindB ev) cb) (W3 m (odds y) (inputB u))) where
   pub node-right : (x : ℕ) → lift32 (2 ^ suc m - length u) (kindB ev) ca cb (last u) x ≡ at4 (W4 (suc m) y u) x
   node-right x =
-      mask4-same (2 ^ suc m - length u) (op4w (read3 (kindB ev) ca) (read3 (kindB ev) cb) (last u)) (op4 (W3 m (evens y) (inputA u)) (W3 m (odds y) (inputB u)) (last u))
-      (λ a b c d ha hb hc hd. op-same (read3 (kindB ev) ca) (W3 m (evens y) (inputA u)) (read3 (kindB ev) cb) (W3 m (odds y) (inputB u)) (last u) (bits-last t) sa sb a b c d ha hb hc hd
+      mask4-same (2 ^ suc m - length u) (op4w (read3 (kindB ev) ca) (read3 (kindB ev) cb) (last u))
+      (op4 (W3 m (evens y) (inputA u)) (W3 m (odds y) (inputB u)) (last u))
+      (λ a b c d ha hb hc hd. op-same (read3 (kindB ev) ca) (W3 m (evens y) (inputA u)) (read3 (kindB ev) cb)
+      (W3 m (odds y) (inputB u)) (last u) (bits-last t) sa sb a b c d ha hb hc hd
       ∙ op-full (W3 m (evens y) (inputA u)) (W3 m (odds y) (inputB u))
-      (λ a b c. omega (arith, win-le m (evens y) (inputA u) (a ∷ b ∷ c ∷ []), magnitude-halves y)) (λ a b c. omega (arith, win-le m (odds y) (inputB u) (a ∷ b ∷ c ∷ []), magnitude-halves y)) (last u) a b c d)
+      (λ a b c. omega (arith, win-le m (evens y) (inputA u) (a ∷ b ∷ c ∷ []), magnitude-halves y))
+      (λ a b c. omega (arith, win-le m (odds y) (inputB u) (a ∷ b ∷ c ∷ []), magnitude-halves y))
+      (last u) a b c d)
       (x % 2) (x / 2 % 2) (x / 4 % 2) (x / 8 % 2) (omega arith) (omega arith) (omega arith) (omega arith)
       ∙ sym (win-op m y u o h (x % 2) (x / 2 % 2) (x / 4 % 2) (x / 8 % 2))
-
-odd-shape : {k : Kind} {v : List ℕ} → Shape k v → k ≡ odd → Odd v
-odd-shape s-none e = let z : _≡_ {A = ℕ} 0 1 = cc in absurd (omega arith)
-odd-shape (s-odd v o) e = o
-odd-shape (s-even v b o) e = absurd (odd-not-even (sym e))
-
-le-cases : (d e : ℕ) → d ≤ e → (d ≡ e) ⊎ (d < e)
-le-cases d e h = eq-or-lt-of-le {n = d} {m = e} h
-
-pow-two : (d : ℕ) → 2 ^ suc d ≡ 2 * 2 ^ d
-pow-two d = omega arith
 
 -- ---- a path's row
 module _ (k d l h : ℕ) (y : List ℤ) (v : List ℕ) (ev : Bool) (n : ℕ) (b t t′ : List ℕ) (s o o′ r : ℕ)
     (tv : Bits v) (ko : kind (phase d (length v)) ≡ odd) (lv : phase d (length v) < 2 ^ suc (suc (suc k)))
-    (en : n ≡ 2 ^ suc (suc (suc k)) - phase d (length v)) (ek : ev ≡ isEven (kind (phase (suc d) (length v)))) (small : magnitude y < 2 ^ 31)
+    (en : n ≡ 2 ^ suc (suc (suc k)) - phase d (length v)) (ek : ev ≡ isEven (kind (phase (suc d) (length v))))
+    (small : magnitude y < 2 ^ 31)
     (below : Right k (suc d) y v (cellIn l h t b (2 ^ suc d) s o))
     (bits : (i : ℕ) → i < 2 ^ d → getD b (slotStart (2 ^ d) l r + i) 0 ≡ last (nodePrefix d v i))
-    (cells : (i x : ℕ) → i < 2 ^ d → x < 16 → getD t′ (16 * (slotStart (2 ^ d) l r + i) + x) 0 ≡ rowF ev n (2 ^ d) l h b t s o r i x) where
-  below′ : (i : ℕ) → i < 2 ^ suc d → Good (suc (suc k)) (nodeSoft (suc d) y i) (nodePrefix (suc d) v i) (cellIn l h t b (2 * 2 ^ d) s o i)
-  below′ i g = subst (λ (w : ℕ). Good (suc (suc k)) (nodeSoft (suc d) y i) (nodePrefix (suc d) v i) (cellIn l h t b w s o i)) (pow-two d) (below i g)
+    (cells : (i x : ℕ) → i < 2 ^ d → x < 16
+    → getD t′ (16 * (slotStart (2 ^ d) l r + i) + x) 0 ≡ rowF ev n (2 ^ d) l h b t s o r i x) where
+  below′ : (i : ℕ) → i < 2 ^ suc d
+      → Good (suc (suc k)) (nodeSoft (suc d) y i) (nodePrefix (suc d) v i) (cellIn l h t b (2 * 2 ^ d) s o i)
+  below′ i g = subst (λ (w : ℕ). Good (suc (suc k)) (nodeSoft (suc d) y i) (nodePrefix (suc d) v i)
+      (cellIn l h t b w s o i)) (pow-two d) (below i g)
 
   module _ (i : ℕ) (hi : i < 2 ^ d) where
     abbrev u : List ℕ
@@ -116,7 +106,8 @@ module _ (k d l h : ℕ) (y : List ℤ) (v : List ℕ) (ev : Bool) (n : ℕ) (b 
     kA = ek ∙ ap (λ (z : ℕ). isEven (kind z)) (sym (length-nodePrefix (suc d) v i (omega arith)) ∙ ap length eA)
 
     kB : ev ≡ isEven (kind (length (inputB u)))
-    kB = ek ∙ ap (λ (z : ℕ). isEven (kind z)) (sym (length-nodePrefix (suc d) v (i + 2 ^ d) (omega arith)) ∙ ap length eB)
+    kB = ek ∙ ap (λ (z : ℕ). isEven (kind z))
+        (sym (length-nodePrefix (suc d) v (i + 2 ^ d) (omega arith)) ∙ ap length eB)
 
     abbrev src : ℕ
     src = slotStart (2 * 2 ^ d) l s
@@ -127,12 +118,16 @@ module _ (k d l h : ℕ) (y : List ℤ) (v : List ℕ) (ev : Bool) (n : ℕ) (b 
     far : 16 * (src + (i + 2 ^ d)) ≡ 16 * (src + 2 ^ d + i)
     far = omega arith
 
-    sA : Same3 (read3 (kindB ev) (tabAt t (16 * (src + i)) (getD b (os + i) 0 % 2))) (W3 (suc (suc k)) (evens (nodeSoft d y i)) (inputA u))
-    sA = read-right (suc (suc k)) (evens (nodeSoft d y i)) (inputA u) (cellIn l h t b (2 * 2 ^ d) s o i) (tabAt t (16 * (src + i)) (getD b (os + i) 0 % 2)) ev gA (bits-inputA bu) kA
+    sA : Same3 (read3 (kindB ev) (tabAt t (16 * (src + i)) (getD b (os + i) 0 % 2)))
+        (W3 (suc (suc k)) (evens (nodeSoft d y i)) (inputA u))
+    sA = read-right (suc (suc k)) (evens (nodeSoft d y i)) (inputA u) (cellIn l h t b (2 * 2 ^ d) s o i)
+        (tabAt t (16 * (src + i)) (getD b (os + i) 0 % 2)) ev gA (bits-inputA bu) kA
         (λ x _. refl) refl
 
-    sB : Same3 (read3 (kindB ev) (tabAt t (16 * (src + 2 ^ d + i)) (getD b (os + 2 ^ d + i) 0 % 2))) (W3 (suc (suc k)) (odds (nodeSoft d y i)) (inputB u))
-    sB = read-right (suc (suc k)) (odds (nodeSoft d y i)) (inputB u) (cellIn l h t b (2 * 2 ^ d) s o (i + 2 ^ d)) (tabAt t (16 * (src + 2 ^ d + i)) (getD b (os + 2 ^ d + i) 0 % 2)) ev gB (bits-inputB bu) kB
+    sB : Same3 (read3 (kindB ev) (tabAt t (16 * (src + 2 ^ d + i)) (getD b (os + 2 ^ d + i) 0 % 2)))
+        (W3 (suc (suc k)) (odds (nodeSoft d y i)) (inputB u))
+    sB = read-right (suc (suc k)) (odds (nodeSoft d y i)) (inputB u) (cellIn l h t b (2 * 2 ^ d) s o (i + 2 ^ d))
+        (tabAt t (16 * (src + 2 ^ d + i)) (getD b (os + 2 ^ d + i) 0 % 2)) ev gB (bits-inputB bu) kB
         (λ x _. ap (λ (z : ℕ). getD t (z + x) 0) (sym far))
         (let e : os + 2 ^ d + i ≡ os + (i + 2 ^ d) = omega arith in ap (λ (z : ℕ). getD b z 0 % 2) e)
 
@@ -143,12 +138,15 @@ module _ (k d l h : ℕ) (y : List ℤ) (v : List ℕ) (ev : Bool) (n : ℕ) (b 
     eN = en ∙ ap (λ (z : ℕ). 2 ^ suc (suc (suc k)) - z) (sym lu)
 
     right : (x : ℕ) → rowF ev n (2 ^ d) l h b t s o r i x ≡ at4 (W4 (suc (suc (suc k))) (nodeSoft d y i) u) x
-    right x = rw (eE, eN) (node-right (suc (suc k)) (nodeSoft d y i) u ou bu (rw lu lv) (omega (arith, magnitude-nodeSoft d y i hi)) ev
-        (tabAt t (16 * (src + i)) (getD b (os + i) 0 % 2)) (tabAt t (16 * (src + 2 ^ d + i)) (getD b (os + 2 ^ d + i) 0 % 2)) sA sB x)
+    right x = rw (eE, eN)
+        (node-right (suc (suc k)) (nodeSoft d y i) u ou bu (rw lu lv) (omega (arith, magnitude-nodeSoft d y i hi)) ev
+        (tabAt t (16 * (src + i)) (getD b (os + i) 0 % 2))
+        (tabAt t (16 * (src + 2 ^ d + i)) (getD b (os + 2 ^ d + i) 0 % 2)) sA sB x)
 
     good : Good (suc (suc (suc k))) (nodeSoft d y i) u (cellIn l h t′ b (2 ^ d) r o′ i)
     good = record {
-      costs-are = λ x hx. cells i x hi hx ∙ right x ∙ ap (λ (z : List ℕ). at4 (W4 (suc (suc (suc k))) (nodeSoft d y i) z) x) (sym (cut-odd u ou));
+      costs-are = λ x hx. cells i x hi hx ∙ right x
+          ∙ ap (λ (z : List ℕ). at4 (W4 (suc (suc (suc k))) (nodeSoft d y i) z) x) (sym (cut-odd u ou));
       even-is = bits i hi ∙ ap last (sym (cut-odd u ou));
       bits-are = λ q. absurd (odd-not-even (sym (ap kind lu ∙ ko) ∙ q));
     }
@@ -157,54 +155,51 @@ module _ (k d l h : ℕ) (y : List ℤ) (v : List ℕ) (ev : Bool) (n : ℕ) (b 
   row-right i hi = good i hi
 
 -- ---- all paths: one layer is right where the one below it is
-pub layer-right : (k d l h : ℕ) (y : List ℤ) (N : ℕ) (vs : ℕ → List ℕ) (ev : Bool) (n count : ℕ) (b t t′ : List ℕ) (S O O′ : ℕ → ℕ)
+pub layer-right : (k d l h : ℕ) (y : List ℤ) (N : ℕ) (vs : ℕ → List ℕ) (ev : Bool) (n count : ℕ) (b t t′ : List ℕ)
+    (S O O′ : ℕ → ℕ)
     → ((r : ℕ) → r < count → Bits (vs r)) → ((r : ℕ) → r < count → length (vs r) ≡ N)
-    → kind (phase d N) ≡ odd → phase d N < 2 ^ suc (suc (suc k)) → n ≡ 2 ^ suc (suc (suc k)) - phase d N → ev ≡ isEven (kind (phase (suc d) N)) → magnitude y < 2 ^ 31
+    → kind (phase d N) ≡ odd → phase d N < 2 ^ suc (suc (suc k)) → n ≡ 2 ^ suc (suc (suc k)) - phase d N
+    → ev ≡ isEven (kind (phase (suc d) N)) → magnitude y < 2 ^ 31
     → AllRight k (suc d) l h count y vs t b S O
     → ((r i : ℕ) → r < count → i < 2 ^ d → getD b (slotStart (2 ^ d) l r + i) 0 ≡ last (nodePrefix d (vs r) i))
-    → WroteRows (λ z. flat16 (rowF ev n (2 ^ d) l h b t (S z) (O z) z)) (16 * slotStart (2 ^ d) l 0) (16 * 2 ^ d) count t t′
+    → WroteRows (λ z. flat16 (rowF ev n (2 ^ d) l h b t (S z) (O z) z)) (16 * slotStart (2 ^ d) l 0)
+    (16 * 2 ^ d) count t t′
     → AllRight (suc k) d l h count y vs t′ b (λ r. r) O′
 layer-right k d l h y N vs ev n count b t t′ S O O′ tv ln ko lp en ek small below bits a r hr =
-    row-right k d l h y (vs r) ev n b t t′ (S r) (O r) (O′ r) r (tv r hr) (rw (ln r hr) ko) (rw (ln r hr) lp) (rw (ln r hr) en) (rw (ln r hr) ek) small (below r hr)
+    row-right k d l h y (vs r) ev n b t t′ (S r) (O r) (O′ r) r (tv r hr) (rw (ln r hr) ko) (rw (ln r hr) lp)
+    (rw (ln r hr) en) (rw (ln r hr) ek) small (below r hr)
     (λ i hi. bits r i hr hi)
     (λ i x hi hx.
-    let e : 16 * (slotStart (2 ^ d) l r + i) + x ≡ 16 * slotStart (2 ^ d) l 0 + 16 * 2 ^ d * r + (16 * i + x) = omega (arith, place-is 16 (2 ^ d) l r) in
+    let e : 16 * (slotStart (2 ^ d) l r + i) + x ≡ 16 * slotStart (2 ^ d) l 0 + 16 * 2 ^ d * r + (16 * i + x)
+    = omega (arith, slot-times 16 (2 ^ d) l r) in
     let e₁ : (16 * i + x) / 16 ≡ i = omega arith in
     let e₂ : (16 * i + x) % 16 ≡ x = omega arith in
-    ap (λ (z : ℕ). getD t′ z 0) e ∙ a .inside r (16 * i + x) hr (omega arith) ∙ ap₂ (rowF ev n (2 ^ d) l h b t (S r) (O r) r) e₁ e₂)
+    ap (λ (z : ℕ). getD t′ z 0) e ∙ a .inside r (16 * i + x) hr (omega arith)
+    ∙ ap₂ (rowF ev n (2 ^ d) l h b t (S r) (O r) r) e₁ e₂)
 
 -- ---- what is not written stays right
 right-kept : (k d l h : ℕ) (y : List ℤ) (v : List ℕ) (t t′ b : List ℕ) (s o : ℕ)
-    → ((i x : ℕ) → i < 2 ^ d → x < 16 → getD t′ (16 * (slotStart (2 ^ d) l s + i) + x) 0 ≡ getD t (16 * (slotStart (2 ^ d) l s + i) + x) 0)
+    → ((i x : ℕ) → i < 2 ^ d → x < 16
+    → getD t′ (16 * (slotStart (2 ^ d) l s + i) + x) 0 ≡ getD t (16 * (slotStart (2 ^ d) l s + i) + x) 0)
     → Right k d y v (cellIn l h t b (2 ^ d) s o) → Right k d y v (cellIn l h t′ b (2 ^ d) s o)
 right-kept k d l h y v t t′ b s o p g i hi =
-    good-ext (suc (suc k)) (nodeSoft d y i) (nodePrefix d v i) (cellIn l h t b (2 ^ d) s o i) (cellIn l h t′ b (2 ^ d) s o i) (λ x hx. p i x hi hx) refl refl refl (g i hi)
-
--- deeper layers begin where a layer ends
-pub first-deep : (d e l s : ℕ) → d < e → slotStart (2 ^ d) l l ≤ slotStart (2 ^ e) l s
-first-deep d zero l s h = absurd (omega arith)
-first-deep d (suc e) l s h = go (le-cases d e (omega arith)) (λ q. first-deep d e l 0 q)
-  where
-    go : (d ≡ e) ⊎ (d < e) → (d < e → slotStart (2 ^ d) l l ≤ slotStart (2 ^ e) l 0) → slotStart (2 ^ d) l l ≤ slotStart (2 ^ suc e) l s
-    go (inl q) ih = rw (q, pow-two e) (omega (arith, first-twice (2 ^ e) l, first-mono (2 * 2 ^ e) l 0 s (omega arith)))
-    go (inr q) ih = rw (pow-two e) (omega (arith, ih q, first-mono (2 ^ e) l 0 l (omega arith), first-twice (2 ^ e) l, first-mono (2 * 2 ^ e) l 0 s (omega arith)))
+    good-ext (suc (suc k)) (nodeSoft d y i) (nodePrefix d v i) (cellIn l h t b (2 ^ d) s o i)
+    (cellIn l h t′ b (2 ^ d) s o i) (λ x hx. p i x hi hx) refl refl refl (g i hi)
 
 -- a layer's rows change no other layer
-pub deeper-kept : (k d e l h count : ℕ) (y : List ℤ) (vs : ℕ → List ℕ) (F : ℕ → ℕ → ℕ) (b t t′ : List ℕ) (S O : ℕ → ℕ) → d < e → count ≤ l
-    → WroteRows F (16 * slotStart (2 ^ d) l 0) (16 * 2 ^ d) count t t′ → AllRight k e l h count y vs t b S O → AllRight k e l h count y vs t′ b S O
+pub deeper-kept : (k d e l h count : ℕ) (y : List ℤ) (vs : ℕ → List ℕ) (F : ℕ → ℕ → ℕ) (b t t′ : List ℕ)
+    (S O : ℕ → ℕ) → d < e → count ≤ l
+    → WroteRows F (16 * slotStart (2 ^ d) l 0) (16 * 2 ^ d) count t t′ → AllRight k e l h count y vs t b S O
+    → AllRight k e l h count y vs t′ b S O
 deeper-kept k d e l h count y vs F b t t′ S O lt lc a g r hr =
     right-kept k e l h y (vs r) t t′ b (S r) (O r)
     (λ i x hi hx. a .above (16 * (slotStart (2 ^ e) l (S r) + i) + x)
-    (omega (arith, place-is 16 (2 ^ d) l count, first-mono (2 ^ d) l count l lc, first-deep d e l (S r) lt))) (g r hr)
+    (omega (arith, slot-times 16 (2 ^ d) l count, slot-mono (2 ^ d) l count l lc, slot-deep d e l (S r) lt))) (g r hr)
 
-pub higher-kept : (k d e l h count : ℕ) (y : List ℤ) (vs : ℕ → List ℕ) (F : ℕ → ℕ → ℕ) (b t t′ : List ℕ) (S O : ℕ → ℕ) → e < d → ((r : ℕ) → r < count → S r < l)
-    → WroteRows F (16 * slotStart (2 ^ d) l 0) (16 * 2 ^ d) count t t′ → AllRight k e l h count y vs t b S O → AllRight k e l h count y vs t′ b S O
-higher-kept k d e l h count y vs F b t t′ S O lt ls a g r hr =
-    right-kept k e l h y (vs r) t t′ b (S r) (O r)
-    (λ i x hi hx. a .below (16 * (slotStart (2 ^ e) l (S r) + i) + x)
-    (omega (arith, first-apart (2 ^ e) l (S r) l (ls r hr), first-deep e d l 0 lt))) (g r hr)
-
-pub below-right : (k d l h count w n : ℕ) (ev : Bool) (y : List ℤ) (N : ℕ) (vs : ℕ → List ℕ) (t b : List ℕ) (S O O′ : ℕ → ℕ) (t′ : List ℕ) → Below k d l h count w n ev y N vs t b S O
-    → WroteRows (λ z. flat16 (rowF ev n w l h b t (S z) (O z) z)) (16 * slotStart w l 0) (16 * w) count t t′ → AllRight (suc k) d l h count y vs t′ b (λ r. r) O′
+pub below-right : (k d l h count w n : ℕ) (ev : Bool) (y : List ℤ) (N : ℕ) (vs : ℕ → List ℕ) (t b : List ℕ)
+    (S O O′ : ℕ → ℕ) (t′ : List ℕ) → Below k d l h count w n ev y N vs t b S O
+    → WroteRows (λ z. flat16 (rowF ev n w l h b t (S z) (O z) z)) (16 * slotStart w l 0) (16 * w) count t t′
+    → AllRight (suc k) d l h count y vs t′ b (λ r. r) O′
 below-right k d l h count w n ev y N vs t b S O O′ t′ a p =
-    layer-right k d l h y N vs ev n count b t t′ S O O′ (a .bits) (a .long) (a .after) (a .inside) (a .left) (a .reads) (a .small) (a .kids) (a .evens) (rw (a .width) at p)
+    layer-right k d l h y N vs ev n count b t t′ S O O′ (a .bits) (a .long) (a .after) (a .inside) (a .left)
+    (a .reads) (a .small) (a .kids) (a .evens) (rw (a .width) at p)

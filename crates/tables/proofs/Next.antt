@@ -1,4 +1,4 @@
--- After an advance the tables stand for the longer prefixes: the step of the decoder's loop. Assumes nothing.
+-- After an advance the tables stand for the longer prefixes: the step of a loop over the positions.
 use mathlib.Core.Path.{_∙_}
 use mathlib.Core.List.{List}
 use Prim.Native.Nat.{ℕ, suc, _+_, _*_, _<_, _^_}
@@ -7,8 +7,10 @@ use Rattle.laws.specs.Nodes.{bits-snoc}
 use Rattle.tables.specs.Walk.{Paths, grown, Down, Advance, Kept}
 use Rattle.tables.proofs.Grounded.{grown-long}
 
-pub next : (deep l h count n : ℕ) (t b slots t′ b′ slots′ b₀ : List ℕ) (p : Paths deep l h count n t b₀ slots) (bs : ℕ → ℕ) → ((r : ℕ) → r < count → bs r < 2) → suc n < 2 ^ suc (suc deep)
-    → Down l h count n 0 (p .ws) (grown (p .ws) (p .bs)) b₀ b → Advance deep l h count n t b slots t′ b′ slots′ → Kept h t t′ → Paths deep l h count (suc n) t′ b′ slots′
+pub next : (deep l h count n : ℕ) (t b slots t′ b′ slots′ b₀ : List ℕ) (p : Paths deep l h count n t b₀ slots)
+    (bs : ℕ → ℕ) → ((r : ℕ) → r < count → bs r < 2) → suc n < 2 ^ suc (suc deep)
+    → Down l h count n 0 (p .ws) (grown (p .ws) (p .bs)) b₀ b → Advance deep l h count n t b slots t′ b′ slots′
+    → Kept h t t′ → Paths deep l h count (suc n) t′ b′ slots′
 next deep l h count n t b slots t′ b′ slots′ b₀ p bs hb room top a kept = record {
   y = p .y;
   small = p .small;

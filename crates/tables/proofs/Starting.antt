@@ -1,4 +1,4 @@
--- The start: what its passes write is right for the empty prefix. Assumes nothing.
+-- The start: what its passes write is right for the empty prefix.
 use mathlib.Core.Path.{_≡_, refl, sym, ap, ap₂, subst, _∙_}
 use mathlib.Core.Logic.{_⊎_, ⊎-elim}
 use mathlib.Core.Bool.{false}
@@ -12,7 +12,7 @@ use lib.Pow.{pow-mono}
 use Rattle.spec.specs.Bits.{nil}
 use Rattle.spec.specs.Transform.{evens, odds}
 use Rattle.laws.specs.Cost.{magnitude}
-use Rattle.laws.specs.Windows.{at4, pack4, op4, F, W3, W4, win-start, base-0}
+use Rattle.laws.specs.Windows.{at4, op4, F, W3, W4, win-start, base-0}
 use Rattle.laws.specs.Nodes.{odd, node-even, node-odd, nodeSoft, nodePrefix-nil, none-not-even}
 use Rattle.laws.specs.Soft.{fourAt, nodeSoft-bottom, magnitude-range}
 use Rattle.laws.specs.Cells.{Cell, blank-good, read3, Same3}
@@ -22,59 +22,64 @@ use Rattle.windows.specs.Start.{first32}
 use Rattle.tables.specs.Tab.{slotStart, WroteRows}
 use Rattle.tables.specs.Right.{AllRight}
 use Rattle.tables.specs.Start.{firstF, StartSize, Costs, First, Started, Untouched}
-use Rattle.tables.proofs.Laws.{first-apart}
-use Rattle.tables.proofs.Meaning.{read-right, op-same, op-full, first-deep}
+use Rattle.tables.proofs.Meaning.{read-right}
+use Rattle.tables.proofs.Operator.{first32-same, op-full, op-same}
+use Rattle.tables.proofs.Places.{pow-two, slot-apart, slot-deep}
 
 -- ---- one node more: the children lie above all that is written
-read-same : (c c′ : Cell) → ((x : ℕ) → x < 16 → c .costs x ≡ c′ .costs x) → Same3 (read3 odd c) (read3 odd c′)
-read-same c c′ p x y z hx hy hz = ap₂ min (p (pack4 x y z 0) (omega arith)) (p (pack4 x y z 1) (omega arith))
-
-first32-same : (a b a′ b′ : Cell) → ((x : ℕ) → x < 16 → a .costs x ≡ a′ .costs x) → ((x : ℕ) → x < 16 → b .costs x ≡ b′ .costs x) → (x : ℕ) → first32 a b x ≡ first32 a′ b′ x
-first32-same a b a′ b′ p q x = ap₂ min (at 0 (omega arith)) (at 1 (omega arith))
-  where
-    at : (f : ℕ) → f < 2 → op4w (read3 odd a) (read3 odd b) (x % 2) (x / 2 % 2) (x / 4 % 2) (x / 8 % 2) f ≡ op4w (read3 odd a′) (read3 odd b′) (x % 2) (x / 2 % 2) (x / 4 % 2) (x / 8 % 2) f
-    at f hf = op-same (read3 odd a) (read3 odd a′) (read3 odd b) (read3 odd b′) (x % 2) (omega arith) (read-same a a′ p) (read-same b b′ q)
-        (x / 2 % 2) (x / 4 % 2) (x / 8 % 2) f (omega arith) (omega arith) (omega arith) hf
-
-pub first-same : (src w : ℕ) (t t′ : List ℕ) → ((j : ℕ) → 16 * src ≤ j → getD t′ j 0 ≡ getD t j 0) → (i x : ℕ) → firstF src w t′ i x ≡ firstF src w t i x
-first-same src w t t′ p i x = first32-same (tabAt t′ (16 * (src + i)) 0) (tabAt t′ (16 * (src + w + i)) 0) (tabAt t (16 * (src + i)) 0) (tabAt t (16 * (src + w + i)) 0)
-    (λ z h. p (16 * (src + i) + z) (omega arith)) (λ z h. p (16 * (src + w + i) + z) (omega arith)) x
+pub first-same : (src w : ℕ) (t t′ : List ℕ) → ((j : ℕ) → 16 * src ≤ j → getD t′ j 0 ≡ getD t j 0) → (i x : ℕ)
+    → firstF src w t′ i x ≡ firstF src w t i x
+first-same src w t t′ p i x
+    = first32-same (tabAt t′ (16 * (src + i)) 0) (tabAt t′ (16 * (src + w + i)) 0) (tabAt t (16 * (src + i)) 0)
+    (tabAt t (16 * (src + w + i)) 0)
+    (λ z h. p (16 * (src + i) + z) (omega arith)) (λ z h. p (16 * (src + w + i) + z) (omega arith)) refl refl
+    (omega arith) (omega arith) x
 
 -- ---- a node's window, from its children's
 module _ (m : ℕ) (y : List ℤ) (deep : 2 ≤ m) (small : magnitude y < 2 ^ 31) (a b : Cell)
     (sa : Same3 (read3 odd a) (W3 m (evens y) [])) (sb : Same3 (read3 odd b) (W3 m (odds y) [])) where
   window-right : (x : ℕ) → first32 a b x ≡ at4 (W4 (suc m) y []) x
-  window-right x = ap₂ min (at 0 (omega arith)) (at 1 (omega arith)) ∙ sym (win-start m y deep (x % 2) (x / 2 % 2) (x / 4 % 2) (x / 8 % 2))
+  window-right x = ap₂ min (at 0 (omega arith)) (at 1 (omega arith))
+      ∙ sym (win-start m y deep (x % 2) (x / 2 % 2) (x / 4 % 2) (x / 8 % 2))
     where
-      at : (f : ℕ) → f < 2 → op4w (read3 odd a) (read3 odd b) (x % 2) (x / 2 % 2) (x / 4 % 2) (x / 8 % 2) f ≡ op4 (W3 m (evens y) []) (W3 m (odds y) []) (x % 2) (x / 2 % 2) (x / 4 % 2) (x / 8 % 2) f
-      at f hf = op-same (read3 odd a) (W3 m (evens y) []) (read3 odd b) (W3 m (odds y) []) (x % 2) (omega arith) sa sb (x / 2 % 2) (x / 4 % 2) (x / 8 % 2) f (omega arith) (omega arith) (omega arith) hf
+      at : (f : ℕ) → f < 2
+          → op4w (read3 odd a) (read3 odd b) (x % 2) (x / 2 % 2) (x / 4 % 2) (x / 8 % 2) f
+          ≡ op4 (W3 m (evens y) []) (W3 m (odds y) []) (x % 2) (x / 2 % 2) (x / 4 % 2) (x / 8 % 2) f
+      at f hf = op-same (read3 odd a) (W3 m (evens y) []) (read3 odd b) (W3 m (odds y) []) (x % 2)
+          (omega arith) sa sb (x / 2 % 2) (x / 4 % 2) (x / 8 % 2) f (omega arith) (omega arith) (omega arith) hf
           ∙ op-full (W3 m (evens y) []) (W3 m (odds y) [])
-          (λ p q r. omega (arith, win-le m (evens y) [] (p ∷ q ∷ r ∷ []), magnitude-halves y)) (λ p q r. omega (arith, win-le m (odds y) [] (p ∷ q ∷ r ∷ []), magnitude-halves y))
+          (λ p q r. omega (arith, win-le m (evens y) [] (p ∷ q ∷ r ∷ []), magnitude-halves y))
+          (λ p q r. omega (arith, win-le m (odds y) [] (p ∷ q ∷ r ∷ []), magnitude-halves y))
           (x % 2) (x / 2 % 2) (x / 4 % 2) (x / 8 % 2) f
 
 -- a word read as a child's window
-child-right : (m : ℕ) (y : List ℤ) (t : List ℕ) (p : ℕ) → ((x : ℕ) → x < 16 → getD t (p + x) 0 ≡ at4 (W4 m y []) x) → Same3 (read3 odd (tabAt t p 0)) (W3 m y [])
-child-right m y t p e = read-right m y [] (tabAt t p 0) (tabAt t p 0) false (blank-good m y (λ x. getD t (p + x) 0) e) nil refl (λ x _. refl) refl
+child-right : (m : ℕ) (y : List ℤ) (t : List ℕ) (p : ℕ) → ((x : ℕ) → x < 16 → getD t (p + x) 0 ≡ at4 (W4 m y []) x)
+    → Same3 (read3 odd (tabAt t p 0)) (W3 m y [])
+child-right m y t p e
+    = read-right m y [] (tabAt t p 0) (tabAt t p 0) false (blank-good m y (λ x. getD t (p + x) 0) e) nil refl
+    (λ x _. refl) refl
 
 -- ---- a layer, from the layer below
-pow-two : (d : ℕ) → 2 ^ suc d ≡ 2 * 2 ^ d
-pow-two d = omega arith
-
 module _ (k d l : ℕ) (y : List ℤ) (t t′ : List ℕ) (small : magnitude y < 2 ^ 31) (kids : First k (suc d) l y t)
-    (rows : WroteRows (firstF (slotStart (2 * 2 ^ d) l 0) (2 ^ d) t) (16 * slotStart (2 ^ d) l 0) 16 (2 ^ d) t t′) where
-  abbrev src : ℕ
-  src = slotStart (2 * 2 ^ d) l 0
+    (rows : WroteRows (firstF (slotStart (2 * 2 ^ d) l 0) (2 ^ d) t) (16 * slotStart (2 ^ d) l 0) 16 (2 ^ d) t t′)
+  where
+    abbrev src : ℕ
+    src = slotStart (2 * 2 ^ d) l 0
 
-  kid : (i j p : ℕ) → j < 2 ^ suc d → p ≡ src + j → Same3 (read3 odd (tabAt t (16 * p) 0)) (W3 (suc (suc k)) (nodeSoft (suc d) y j) [])
-  kid i j p hj e = child-right (suc (suc k)) (nodeSoft (suc d) y j) t (16 * p) λ x hx.
-      ap (λ (z : ℕ). getD t (16 * z + x) 0) (e ∙ ap (λ (w : ℕ). slotStart w l 0 + j) (sym (pow-two d))) ∙ kids j x hj hx
+    kid : (i j p : ℕ) → j < 2 ^ suc d → p ≡ src + j
+        → Same3 (read3 odd (tabAt t (16 * p) 0)) (W3 (suc (suc k)) (nodeSoft (suc d) y j) [])
+    kid i j p hj e = child-right (suc (suc k)) (nodeSoft (suc d) y j) t (16 * p) λ x hx.
+        ap (λ (z : ℕ). getD t (16 * z + x) 0) (e ∙ ap (λ (w : ℕ). slotStart w l 0 + j) (sym (pow-two d)))
+        ∙ kids j x hj hx
 
-  layer-first : First (suc k) d l y t′
-  layer-first i x hi hx =
-      let e : 16 * (slotStart (2 ^ d) l 0 + i) + x ≡ 16 * slotStart (2 ^ d) l 0 + 16 * i + x = omega arith in
-      ap (λ (z : ℕ). getD t′ z 0) e ∙ rows .inside i x hi hx
-      ∙ window-right (suc (suc k)) (nodeSoft d y i) (omega arith) (omega (arith, magnitude-nodeSoft d y i hi)) (tabAt t (16 * (src + i)) 0) (tabAt t (16 * (src + 2 ^ d + i)) 0)
-      (rw (node-even evens odds d y i hi) at (kid i i (src + i) (omega arith) refl)) (rw (node-odd evens odds d y i) at (kid i (i + 2 ^ d) (src + 2 ^ d + i) (omega arith) (omega arith))) x
+    layer-first : First (suc k) d l y t′
+    layer-first i x hi hx =
+        let e : 16 * (slotStart (2 ^ d) l 0 + i) + x ≡ 16 * slotStart (2 ^ d) l 0 + 16 * i + x = omega arith in
+        ap (λ (z : ℕ). getD t′ z 0) e ∙ rows .inside i x hi hx
+        ∙ window-right (suc (suc k)) (nodeSoft d y i) (omega arith) (omega (arith, magnitude-nodeSoft d y i hi))
+        (tabAt t (16 * (src + i)) 0) (tabAt t (16 * (src + 2 ^ d + i)) 0)
+        (rw (node-even evens odds d y i hi) at (kid i i (src + i) (omega arith) refl))
+        (rw (node-odd evens odds d y i) at (kid i (i + 2 ^ d) (src + 2 ^ d + i) (omega arith) (omega arith))) x
 
 -- ---- the loop up: the layers from d on are there
 abbrev FirstFrom : ℕ → ℕ → ℕ → List ℤ → List ℕ → Type 0
@@ -90,7 +95,7 @@ pub record Starting (deep l h d w : ℕ) (y : List ℤ) (t₀ t : List ℕ) : Ty
 module _ (deep q l h : ℕ) (y : List ℤ) (t₀ : List ℕ) (size : StartSize deep q l h t₀ y) where
   -- a layer's windows end below the next layer's, and below the bottom's costs
   ends : (d e : ℕ) → d < e → slotStart (2 ^ d) l 0 + 2 ^ d ≤ slotStart (2 ^ e) l 0
-  ends d e h = omega (arith, first-apart (2 ^ d) l 0 l (size .paths), first-deep d e l 0 h)
+  ends d e h = omega (arith, slot-apart (2 ^ d) l 0 l (size .paths), slot-deep d e l 0 h)
 
   ends-low : (d : ℕ) → d ≤ deep → slotStart (2 ^ d) l 0 + 2 ^ d ≤ h
   ends-low d hd = omega (arith, ends d (suc deep) (omega arith), size .low)
@@ -103,35 +108,51 @@ module _ (deep q l h : ℕ) (y : List ℤ) (t₀ : List ℕ) (size : StartSize d
   pub bottom-fits : (16 * (slotStart q l 0 + q) ≤ length t₀) × (length y ≡ 4 * q) × (q ≤ 256)
   bottom-fits =
       let e : 2 ^ deep ≤ 2 ^ 8 = pow-mono {i = deep} {j = 8} (size .deepest) in
-      let at : slotStart q l 0 ≡ slotStart (2 ^ deep) l 0 = ap (λ (w : ℕ). slotStart w l 0) (size .bottom) in
-      (omega (arith, size .bottom, size .costs, ends-low deep (omega arith)), omega (arith, size .whole, size .bottom), omega (arith, size .bottom))
+      let at : slotStart q l 0 ≡ slotStart (2 ^ deep) l 0 = ap (λ (w : ℕ). slotStart w l 0) (size .bottom) in (
+        omega (arith, size .bottom, size .costs, ends-low deep (omega arith)),
+        omega
+            (arith, size .whole, size .bottom),
+        omega (arith, size .bottom),
+      )
 
-  pub start-fits : (d w : ℕ) (t t₁ : List ℕ) → length t ≡ length t₀ → 0 < d → Starting deep l h d w y t₁ t → (w / 2 ≤ 1024) × (1 ≤ l) × (l ≤ 32) × (16 * slotStart (2 * (w / 2)) l l ≤ length t)
+  pub start-fits : (d w : ℕ) (t t₁ : List ℕ) → length t ≡ length t₀ → 0 < d → Starting deep l h d w y t₁ t
+      → (w / 2 ≤ 1024) × (1 ≤ l) × (l ≤ 32) × (16 * slotStart (2 * (w / 2)) l l ≤ length t)
   start-fits d w t t₁ el hd a =
       let c : ℕ = d - 1 in
       let z : w ≡ 2 * 2 ^ c = a .width ∙ ap (λ (k : ℕ). 2 ^ k) (omega arith) ∙ pow-two c in
       let e : 2 * (w / 2) ≡ 2 ^ d = omega (arith, a .width) in
-      let q : 2 ^ d ≤ 2 ^ 8 = pow-mono {i = d} {j = 8} (omega (arith, a .far, size .deepest)) in
-      (omega (arith, a .width), size .paths, size .long, rw e (omega (arith, first-deep d (suc deep) l 0 (omega (arith, a .far)), size .low, size .costs)))
+      let q : 2 ^ d ≤ 2 ^ 8 = pow-mono {i = d} {j = 8} (omega (arith, a .far, size .deepest)) in (
+        omega (arith, a .width),
+        size .paths,
+        size .long,
+        rw e
+            (omega (arith, slot-deep d (suc deep) l 0 (omega (arith, a .far)), size .low, size .costs)),
+      )
 
   -- the bottom
-  pub start-bottom : (t₁ t₂ : List ℕ) → WroteRows (λ i. F (fourAt y q i)) (16 * h) 16 q t₀ t₁ → WroteRows (λ i. F (fourAt y q i)) (16 * slotStart q l 0) 16 q t₁ t₂
+  pub start-bottom : (t₁ t₂ : List ℕ) → WroteRows (λ i. F (fourAt y q i)) (16 * h) 16 q t₀ t₁
+      → WroteRows (λ i. F (fourAt y q i)) (16 * slotStart q l 0) 16 q t₁ t₂
       → Starting deep l h deep q y t₀ t₂
   start-bottom t₁ t₂ a b = record {
     far = omega arith;
     width = size .bottom;
     base = λ i x hi hx.
         let e : 16 * (h + i) + x ≡ 16 * h + 16 * i + x = omega arith in
-        b .above (16 * (h + i) + x) (omega (arith, low, size .bottom)) ∙ ap (λ (z : ℕ). getD t₁ z 0) e ∙ a .inside i x (omega (arith, size .bottom)) hx ∙ soft i x hi;
+        b .above (16 * (h + i) + x) (omega (arith, low, size .bottom)) ∙ ap (λ (z : ℕ). getD t₁ z 0) e
+        ∙ a .inside i x (omega (arith, size .bottom)) hx ∙ soft i x hi;
     windows = λ k e ek he i x hi hx.
         let e₀ : e ≡ deep = omega arith in
         let k₀ : k ≡ 0 = omega arith in
-        subst (λ (e : ℕ). (i : ℕ) → i < 2 ^ e → getD t₂ (16 * (slotStart (2 ^ e) l 0 + i) + x) 0 ≡ at4 (W4 (suc (suc k)) (nodeSoft e y i) []) x) (sym e₀)
-        (λ i hi. subst (λ (k : ℕ). getD t₂ (16 * (slotStart (2 ^ deep) l 0 + i) + x) 0 ≡ at4 (W4 (suc (suc k)) (nodeSoft deep y i) []) x) (sym k₀) (window i x hi hx)) i hi;
+        subst (λ (e : ℕ). (i : ℕ) → i < 2 ^ e
+        → getD t₂ (16 * (slotStart (2 ^ e) l 0 + i) + x) 0 ≡ at4 (W4 (suc (suc k)) (nodeSoft e y i) []) x)
+        (sym e₀)
+        (λ i hi. subst (λ (k : ℕ). getD t₂ (16 * (slotStart (2 ^ deep) l 0 + i) + x) 0
+        ≡ at4 (W4 (suc (suc k)) (nodeSoft deep y i) []) x) (sym k₀) (window i x hi hx)) i hi;
     rest = record {
       same = b .same ∙ a .same;
       rest = λ j o.
-          ⊎-elim (λ g. b .below j (omega (arith, at))) (λ g. b .above j (omega (arith, at, size .bottom))) (o .layers deep (omega arith))
+          ⊎-elim (λ g. b .below j (omega (arith, at))) (λ g. b .above j (omega (arith, at, size .bottom)))
+          (o .layers deep (omega arith))
           ∙ ⊎-elim (λ g. a .below j g) (λ g. a .above j (omega (arith, size .bottom))) (o .costs);
     };
   }
@@ -143,27 +164,34 @@ module _ (deep q l h : ℕ) (y : List ℤ) (t₀ : List ℕ) (size : StartSize d
       low = omega (arith, at, size .bottom, ends-low deep (omega arith))
 
       soft : (i x : ℕ) → i < 2 ^ deep → F (fourAt y q i) x ≡ F (nodeSoft deep y i) x
-      soft i x hi = ap (λ (z : List ℤ). F z x) (ap (λ (w : ℕ). fourAt y w i) (size .bottom) ∙ sym (nodeSoft-bottom deep y i hi (size .whole)))
+      soft i x hi = ap (λ (z : List ℤ). F z x)
+          (ap (λ (w : ℕ). fourAt y w i) (size .bottom) ∙ sym (nodeSoft-bottom deep y i hi (size .whole)))
 
-      window : (i x : ℕ) → i < 2 ^ deep → x < 16 → getD t₂ (16 * (slotStart (2 ^ deep) l 0 + i) + x) 0 ≡ at4 (W4 2 (nodeSoft deep y i) []) x
+      window : (i x : ℕ) → i < 2 ^ deep → x < 16
+          → getD t₂ (16 * (slotStart (2 ^ deep) l 0 + i) + x) 0 ≡ at4 (W4 2 (nodeSoft deep y i) []) x
       window i x hi hx =
           let e : 16 * (slotStart (2 ^ deep) l 0 + i) + x ≡ 16 * slotStart q l 0 + 16 * i + x = omega (arith, at) in
-          ap (λ (z : ℕ). getD t₂ z 0) e ∙ b .inside i x (omega (arith, size .bottom)) hx ∙ soft i x hi ∙ sym (base-0 (nodeSoft deep y i) (x % 2) (x / 2 % 2) (x / 4 % 2) (x / 8 % 2))
+          ap (λ (z : ℕ). getD t₂ z 0) e ∙ b .inside i x (omega (arith, size .bottom)) hx ∙ soft i x hi
+          ∙ sym (base-0 (nodeSoft deep y i) (x % 2) (x / 2 % 2) (x / 4 % 2) (x / 8 % 2))
 
   -- one layer more
   pub start-more : (d w : ℕ) (t₁ t t′ : List ℕ) → 0 < d → Starting deep l h d w y t₁ t
-      → WroteRows (firstF (slotStart (2 * (w / 2)) l 0) (w / 2) t) (16 * slotStart (w / 2) l 0) 16 (w / 2) t t′ → Starting deep l h (d - 1) (w / 2) y t₁ t′
+      → WroteRows (firstF (slotStart (2 * (w / 2)) l 0) (w / 2) t) (16 * slotStart (w / 2) l 0) 16 (w / 2) t t′
+      → Starting deep l h (d - 1) (w / 2) y t₁ t′
   start-more d w t₁ t t′ hd a rows = record {
     far = omega (arith, a .far);
     width = half;
-    base = λ i x hi hx. b .above (16 * (h + i) + x) (omega (arith, ends-low c (omega (arith, a .far)))) ∙ a .base i x hi hx;
+    base = λ i x hi hx. b .above (16 * (h + i) + x) (omega (arith, ends-low c (omega (arith, a .far))))
+        ∙ a .base i x hi hx;
     windows = λ k e ek he. ⊎-elim
         (λ (q : c ≡ e). subst (λ (e : ℕ). First k e l y t′) q (this k (omega arith)))
-        (λ (q : c < e). λ i x hi hx. b .above (16 * (slotStart (2 ^ e) l 0 + i) + x) (omega (arith, ends c e q)) ∙ a .windows k e ek (omega arith) i x hi hx)
+        (λ (q : c < e). λ i x hi hx. b .above (16 * (slotStart (2 ^ e) l 0 + i) + x) (omega (arith, ends c e q))
+        ∙ a .windows k e ek (omega arith) i x hi hx)
         (eq-or-lt-of-le {n = c} {m = e} he);
     rest = record {
       same = b .same ∙ a .rest .same;
-      rest = λ j o. ⊎-elim (λ g. b .below j g) (λ g. b .above j (omega arith)) (o .layers c (omega (arith, a .far))) ∙ a .rest .rest j o;
+      rest = λ j o. ⊎-elim (λ g. b .below j g) (λ g. b .above j (omega arith)) (o .layers c (omega (arith, a .far)))
+          ∙ a .rest .rest j o;
     };
   }
     where
@@ -182,26 +210,39 @@ module _ (deep q l h : ℕ) (y : List ℤ) (t₀ : List ℕ) (size : StartSize d
       this : (k : ℕ) → k + c ≡ deep → First k c l y t′
       this k ek =
           let z : k ≡ suc (k - 1) = omega (arith, a .far) in
-          rw z (layer-first (k - 1) c l y t t′ small (λ i x hi hx. a .windows (k - 1) (suc c) (omega (arith, a .far)) (omega arith) i x hi hx) b)
+          rw z (layer-first (k - 1) c l y t t′ small
+          (λ i x hi hx. a .windows (k - 1) (suc c) (omega (arith, a .far)) (omega arith) i x hi hx) b)
 
   -- from the loop's first turn to its end
   pub start-again : (w : ℕ) (t : List ℕ) → Starting deep l h deep w y t₀ t → Starting deep l h deep w y t t
-  start-again w t a = record { far = a .far; width = a .width; base = a .base; windows = a .windows; rest = record { same = refl; rest = λ j _. refl } }
+  start-again w t a =
+      record {
+        far = a .far;
+        width = a .width;
+        base = a .base;
+        windows = a .windows;
+        rest
+            = record { same = refl; rest = λ j _. refl };
+      }
 
-  pub start-done : (w v : ℕ) (t₁ t : List ℕ) → Starting deep l h deep w y t₀ t₁ → Starting deep l h 0 v y t₁ t → Started deep l h y t × Untouched deep l h t₀ t
+  pub start-done : (w v : ℕ) (t₁ t : List ℕ) → Starting deep l h deep w y t₀ t₁ → Starting deep l h 0 v y t₁ t
+      → Started deep l h y t × Untouched deep l h t₀ t
   start-done w v t₁ t a b = (
     record { base = b .base; windows = λ k d e. b .windows k d e (omega arith); small = small },
     record { same = b .rest .same ∙ a .rest .same; rest = λ j o. b .rest .rest j o ∙ a .rest .rest j o },
   )
 
 -- ---- what it means: with all even bits 0, and slot 0 for the one path, the tables are right for the empty prefix
-pub started-ready : (deep l h : ℕ) (y : List ℤ) (t b : List ℕ) → 1 ≤ l → slotStart (2 ^ suc deep) l 0 ≤ h → Started deep l h y t → ((j : ℕ) → j < h → getD b j 0 ≡ 0)
+pub started-ready : (deep l h : ℕ) (y : List ℤ) (t b : List ℕ) → 1 ≤ l → slotStart (2 ^ suc deep) l 0 ≤ h
+    → Started deep l h y t → ((j : ℕ) → j < h → getD b j 0 ≡ 0)
     → (k d : ℕ) → k + d ≡ deep → (S O : ℕ → ℕ) → S 0 ≡ 0 → AllRight k d l h 1 y (λ _. []) t b S O
 started-ready deep l h y t b hl low a zeros k d e S O es r hr i hi =
     let s : S r ≡ 0 = ap S (omega arith) ∙ es in
-    let at : slotStart (2 ^ d) l (S r) + i ≡ slotStart (2 ^ d) l 0 + i = ap (λ (z : ℕ). slotStart (2 ^ d) l z + i) s in
+    let at : slotStart (2 ^ d) l (S r) + i ≡ slotStart (2 ^ d) l 0 + i
+    = ap (λ (z : ℕ). slotStart (2 ^ d) l z + i) s in
     rw (nodePrefix-nil d i hi) record {
       costs-are = λ x hx. ap (λ (z : ℕ). getD t (16 * z + x) 0) at ∙ a .windows k d e i x hi hx;
-      even-is = zeros (slotStart (2 ^ d) l (S r) + i) (omega (arith, first-apart (2 ^ d) l 0 l hl, first-deep d (suc deep) l 0 (omega arith)));
+      even-is = zeros (slotStart (2 ^ d) l (S r) + i)
+          (omega (arith, slot-apart (2 ^ d) l 0 l hl, slot-deep d (suc deep) l 0 (omega arith)));
       bits-are = λ q. absurd (none-not-even q);
     }

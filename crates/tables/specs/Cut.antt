@@ -1,8 +1,8 @@
--- The cut: each live path takes over the slot numbers of its parent. Assumes nothing.
-use Prim.Native.Nat.{ℕ, _+_, _*_, _%_, _<_, _≤_}
+-- The cut: each live path takes over the slot numbers of its parent.
 use mathlib.Core.Path.{_≡_}
 use mathlib.Core.Logic.{_⊎_}
 use mathlib.Core.List.{List}
+use Prim.Native.Nat.{ℕ, _+_, _*_, _%_, _<_, _≤_}
 use lib.ListN.{getD, length}
 use Rattle.tables.specs.Walk.{slotW, slotO}
 
@@ -13,8 +13,10 @@ parent parents r = getD parents r 0 % 32
 -- slots′ is slots, but in each of the rows of 32 at `from` the first count numbers are those of the parents
 pub record CutRows (from rows count : ℕ) (parents slots slots′ : List ℕ) : Type 0 where
   pub same : length slots′ ≡ length slots
-  pub moved : (d r : ℕ) → d < rows → r < count → getD slots′ (from + 32 * d + r) 0 ≡ getD slots (from + 32 * d + parent parents r) 0
-  pub stays : (d r : ℕ) → d < rows → count ≤ r → r < 32 → getD slots′ (from + 32 * d + r) 0 ≡ getD slots (from + 32 * d + r) 0
+  pub moved : (d r : ℕ) → d < rows → r < count
+      → getD slots′ (from + 32 * d + r) 0 ≡ getD slots (from + 32 * d + parent parents r) 0
+  pub stays : (d r : ℕ) → d < rows → count ≤ r → r < 32
+      → getD slots′ (from + 32 * d + r) 0 ≡ getD slots (from + 32 * d + r) 0
   pub below : (j : ℕ) → j < from → getD slots′ j 0 ≡ getD slots j 0
   pub above : (j : ℕ) → from + 32 * rows ≤ j → getD slots′ j 0 ≡ getD slots j 0
 

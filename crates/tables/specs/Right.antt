@@ -1,13 +1,13 @@
--- What it is for the tables to be right for every path, through its slot numbers. Assumes nothing.
-use Prim.Native.Nat.{ℕ, suc, _+_, _*_, _-_, _<_, _^_}
+-- The invariant: what it is for the tables to be right for every live path, through its slot numbers.
 use mathlib.Core.Path.{_≡_}
 use mathlib.Core.List.{List}
+use mathlib.Core.Bool.{Bool}
+use Prim.Native.Nat.{ℕ, suc, _+_, _*_, _-_, _<_, _^_}
 use lib.ListN.{getD, length}
 use lib.IntN.{ℤ}
-use mathlib.Core.Bool.{Bool}
+use Rattle.spec.specs.Bits.{Bits}
 use Rattle.laws.specs.Cost.{last, magnitude}
 use Rattle.laws.specs.Nodes.{nodeSoft, nodePrefix, odd, even, kind, phase, isEven}
-use Rattle.spec.specs.Bits.{Bits}
 use Rattle.laws.specs.Cells.{Cell, Good}
 use Rattle.tables.specs.Tab.{slotStart}
 
@@ -28,8 +28,10 @@ Right k d y v C = (i : ℕ) → i < 2 ^ d → Good (suc (suc k)) (nodeSoft d y i
 abbrev pub AllRight : ℕ → ℕ → ℕ → ℕ → ℕ → List ℤ → (ℕ → List ℕ) → List ℕ → List ℕ → (ℕ → ℕ) → (ℕ → ℕ) → Type 0
 AllRight k d l h count y vs t b S O = (r : ℕ) → r < count → Right k d y (vs r) (cellIn l h t b (2 ^ d) (S r) (O r))
 
--- what a layer's pass stands on: the children of every path's nodes are right for its prefix of N bits, and its even bits are there
-pub record Below (k d l h count w n : ℕ) (ev : Bool) (y : List ℤ) (N : ℕ) (vs : ℕ → List ℕ) (t b : List ℕ) (S O : ℕ → ℕ) : Type 0 where
+-- what a layer's pass stands on: the children of every path's nodes are right for its prefix of N bits, and its even
+-- bits are there
+pub record Below (k d l h count w n : ℕ) (ev : Bool) (y : List ℤ) (N : ℕ) (vs : ℕ → List ℕ) (t b : List ℕ)
+    (S O : ℕ → ℕ) : Type 0 where
   pub width : w ≡ 2 ^ d
   pub bits : (r : ℕ) → r < count → Bits (vs r)
   pub long : (r : ℕ) → r < count → length (vs r) ≡ N

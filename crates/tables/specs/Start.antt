@@ -1,9 +1,9 @@
--- The start, where no bit is decided: what the tables then hold. Assumes nothing.
-use Prim.Native.Nat.{ℕ, suc, _+_, _*_, _<_, _≤_, _^_}
+-- The start, where no bit is decided: what the tables then hold.
 use mathlib.Core.Path.{_≡_}
 use mathlib.Core.Logic.{_⊎_}
 use mathlib.Core.Bool.{false}
 use mathlib.Core.List.{List, []}
+use Prim.Native.Nat.{ℕ, suc, _+_, _*_, _<_, _≤_, _^_}
 use lib.ListN.{getD, length}
 use lib.IntN.{ℤ}
 use Rattle.spec.specs.Faults.{some}
@@ -36,9 +36,11 @@ Costs deep h y t = (i x : ℕ) → i < 2 ^ deep → x < 16 → getD t (16 * (h +
 
 -- the windows of the empty prefix, k layers above the bottom
 abbrev pub First : ℕ → ℕ → ℕ → List ℤ → List ℕ → Type 0
-First k d l y t = (i x : ℕ) → i < 2 ^ d → x < 16 → getD t (16 * (slotStart (2 ^ d) l 0 + i) + x) 0 ≡ at4 (W4 (suc (suc k)) (nodeSoft d y i) []) x
+First k d l y t = (i x : ℕ) → i < 2 ^ d → x < 16
+    → getD t (16 * (slotStart (2 ^ d) l 0 + i) + x) 0 ≡ at4 (W4 (suc (suc k)) (nodeSoft d y i) []) x
 
--- for the soft values y the tables are ready for the first bit: the bottom's costs, and in slot 0 the windows of every layer
+-- for the soft values y the tables are ready for the first bit: the bottom's costs, and in slot 0 the windows of
+-- every layer
 pub record Started (deep l h : ℕ) (y : List ℤ) (t : List ℕ) : Type 0 where
   pub base : Costs deep h y t
   pub windows : (k d : ℕ) → k + d ≡ deep → First k d l y t

@@ -1,14 +1,14 @@
--- Where the cells lie, and what the passes write. Assumes nothing.
-use Prim.Native.Nat.{ℕ, _+_, _*_, _-_, _/_, _%_, _<_, _≤_}
+-- Where the cells lie, and what each pass over them writes, as a function of the lists that it reads.
 use mathlib.Core.Path.{_≡_}
 use mathlib.Core.Bool.{Bool, cond}
 use mathlib.Core.Logic.{_⊎_}
-use lib.Dec.{ltb}
 use mathlib.Core.List.{List}
+use Prim.Native.Nat.{ℕ, _+_, _*_, _-_, _/_, _%_, _<_, _≤_}
+use lib.Dec.{ltb}
 use lib.ListN.{getD, length}
 use Rattle.windows.specs.Op.{tabAt, lift32, kindB, bottomF, decidedOf}
 
--- the slotStart node of slot s of a layer of w nodes, where l paths have room
+-- the first node of slot s of a layer of w nodes, where l paths have room
 unfoldable pub slotStart : ℕ → ℕ → ℕ → ℕ
 slotStart w l s = w * (l + s)
 
@@ -29,11 +29,13 @@ flat16 F m = F (m / 16) (m % 16)
 -- the window of node i of w, from the children's at src, their odd bits at odds and its even bit at evens
 abbrev pub lifted : Bool → ℕ → ℕ → ℕ → ℕ → ℕ → List ℕ → List ℕ → ℕ → ℕ → ℕ
 lifted even n src w odds evens b t i =
-    lift32 n (kindB even) (tabAt t (16 * (src + i)) (getD b (odds + i) 0 % 2)) (tabAt t (16 * (src + w + i)) (getD b (odds + w + i) 0 % 2)) (getD b (evens + i) 0 % 2)
+    lift32 n (kindB even) (tabAt t (16 * (src + i)) (getD b (odds + i) 0 % 2))
+    (tabAt t (16 * (src + w + i)) (getD b (odds + w + i) 0 % 2)) (getD b (evens + i) 0 % 2)
 
 -- of path r, whose children's windows are in slot s and their odd bits in slot o
 abbrev pub rowF : Bool → ℕ → ℕ → ℕ → ℕ → List ℕ → List ℕ → ℕ → ℕ → ℕ → ℕ → ℕ → ℕ
-rowF even n w l h b t s o r = lifted even n (slotStart (2 * w) l s) w (2 * h + slotStart (2 * w) l o) (slotStart w l r) b t
+rowF even n w l h b t s o r
+    = lifted even n (slotStart (2 * w) l s) w (2 * h + slotStart (2 * w) l o) (slotStart w l r) b t
 
 pub record FitWindows (w l h : ℕ) (t b : List ℕ) : Type 0 where
   pub wide : w ≤ 1024
@@ -41,13 +43,13 @@ pub record FitWindows (w l h : ℕ) (t b : List ℕ) : Type 0 where
   pub words : 16 * slotStart (2 * w) l l ≤ length t
   pub bytes : 2 * h + slotStart (2 * w) l l ≤ length b
 
--- the count slot numbers at o name slots
+-- the `count` slot numbers at o are there, and name slots
 pub record Slots (l count o : ℕ) (slots : List ℕ) : Type 0 where
   pub there : o + count ≤ length slots
   pub named : (r : ℕ) → r < count → getD slots (o + r) 0 < l
 
 -- ---- bytes
--- n bytes at p are none of those at to
+-- the n bytes at p are none of the m at `to`
 abbrev pub Apart : ℕ → ℕ → ℕ → ℕ → Type 0
 Apart p n to m = (p + n ≤ to) ⊎ (to + m ≤ p)
 
@@ -75,7 +77,9 @@ pub record FitBits (w l h : ℕ) (b : List ℕ) : Type 0 where
 
 -- ---- the bottom layer: node i's costs are the sixteen words of node src + i, the same for every path
 abbrev pub basedF : Bool → ℕ → ℕ → ℕ → ℕ → List ℕ → List ℕ → ℕ → ℕ → ℕ
-basedF last src sums odds evens b t i = bottomF last t (16 * (src + i)) (decidedOf last (getD b (sums + i) 0) (getD b (odds + i) 0) (getD b (evens + i) 0))
+basedF last src sums odds evens b t i
+    = bottomF last t (16 * (src + i))
+    (decidedOf last (getD b (sums + i) 0) (getD b (odds + i) 0) (getD b (evens + i) 0))
 
 abbrev pub baseF : Bool → ℕ → ℕ → ℕ → List ℕ → List ℕ → ℕ → ℕ → ℕ → ℕ → ℕ
 baseF last w l h b t o r = basedF last h (h + slotStart w l o) (2 * h + slotStart w l o) (slotStart w l r) b t

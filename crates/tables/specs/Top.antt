@@ -1,6 +1,6 @@
--- What is read and written at the top of the tree, one node for each live path. Assumes nothing.
-use Prim.Native.Nat.{ℕ, _+_, _*_, _%_, _≤_}
+-- What is read and written at the top of the tree, one node for each live path.
 use mathlib.Core.List.{List}
+use Prim.Native.Nat.{ℕ, _+_, _*_, _%_, _≤_}
 use lib.ListN.{getD, length}
 use Rattle.laws.specs.Nodes.{kind}
 use Rattle.laws.specs.Cells.{peek}
@@ -19,4 +19,6 @@ pub record FitTop (l h count : ℕ) (t b slots : List ℕ) : Type 0 where
 
 -- what the prefix of path r, n bits long, costs with the bit x more
 abbrev pub topCost : ℕ → ℕ → ℕ → List ℕ → List ℕ → List ℕ → ℕ → ℕ → ℕ
-topCost n l h t b slots x r = peek (kind n) (tabAt t (16 * slotStart 1 l (slotW slots 0 r)) (getD b (2 * h + slotStart 1 l (slotO slots 0 r)) 0 % 2)) x
+topCost n l h t b slots x r
+    = peek (kind n) (tabAt t (16 * slotStart 1 l (slotW slots 0 r))
+    (getD b (2 * h + slotStart 1 l (slotO slots 0 r)) 0 % 2)) x

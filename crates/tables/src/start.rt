@@ -13,7 +13,8 @@ use windows::start::first_node;
 // The costs of the q bottom nodes, to the nodes from dst on.
 fn lay_costs(t: &mut [u32], soft: &[i16], dst: usize, q: usize)
     requires { ⌜ (16 * (dst + q) ≤ length (now t)) × (length (now soft) ≡ 4 * q) ⌝ }
-    ensures { λ _. ⌜ WroteRows (λ i. F (fourAt (now (soft .entry)) q i)) (16 * dst) 16 q (now (t .entry)) (now (t .exit)) ⌝ }
+    ensures { λ _. ⌜ WroteRows (λ i. F (fourAt (now (soft .entry)) q i)) (16 * dst) 16 q
+        (now (t .entry)) (now (t .exit)) ⌝ }
 {
     let mut i = 0;
     while i < q {
@@ -41,7 +42,8 @@ fn first_pass(t: &mut [u32], src: usize, dst: usize, w: usize)
 // A layer of w nodes, in slot 0.
 fn first_layer(t: &mut [u32], w: usize, l: usize)
     requires { ⌜ (w ≤ 1024) × (1 ≤ l) × (l ≤ 32) × (16 * slotStart (2 * w) l l ≤ length (now t)) ⌝ }
-    ensures { λ _. ⌜ WroteRows (firstF (slotStart (2 * w) l 0) w (now (t .entry))) (16 * slotStart w l 0) 16 w (now (t .entry)) (now (t .exit)) ⌝ }
+    ensures { λ _. ⌜ WroteRows (firstF (slotStart (2 * w) l 0) w (now (t .entry))) (16 * slotStart w l 0) 16 w
+        (now (t .entry)) (now (t .exit)) ⌝ }
 {
     let src = place(2 * w, l, 0);
     let dst = place(w, l, 0);
@@ -52,7 +54,8 @@ fn first_layer(t: &mut [u32], w: usize, l: usize)
 // q is the number of bottom nodes.
 pub fn start(t: &mut [u32], soft: &[i16], deep: usize, q: usize, l: usize, h: usize)
     requires { ⌜ StartSize deep q l h (now t) (now soft) ⌝ }
-    ensures { λ _. ⌜ Started deep l h (now (soft .entry)) (now (t .exit)) × Untouched deep l h (now (t .entry)) (now (t .exit)) ⌝ }
+    ensures { λ _. ⌜ Started deep l h (now (soft .entry)) (now (t .exit))
+        × Untouched deep l h (now (t .entry)) (now (t .exit)) ⌝ }
 {
     lay_costs(t, soft, h, q);
     lay_costs(t, soft, place(q, l, 0), q);

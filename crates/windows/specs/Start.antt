@@ -1,6 +1,5 @@
--- The start, where no bit is decided. Assumes nothing.
+-- The start, where no bit is decided: the costs of the bottom's words, and the windows made of them.
 use Prim.Native.Nat.{ℕ, _+_, _≤_, min}
-use lib.ListN.{getD}
 use lib.IntN.{ℤ}
 use Rattle.laws.specs.Cost.{bitCost}
 use Rattle.laws.specs.Layer.{least}
@@ -11,7 +10,7 @@ use Rattle.windows.specs.declared.window.Eight.{Eight}
 use Rattle.windows.specs.declared.window.Sixteen.{Sixteen}
 use Rattle.windows.specs.declared.top.Pair.{Pair}
 use Rattle.windows.specs.declared.start.Quad.{Quad}
-use Rattle.windows.specs.Op.{op4w, entry, eight, listed}
+use Rattle.windows.specs.Op.{op4w, entry, eight, lowOf, highOf}
 
 -- ---- the bottom's costs
 abbrev pub bitCosts : ℤ → Pair
@@ -19,7 +18,12 @@ bitCosts y = record { zero = bitCost y 0; one = bitCost y 1 }
 
 -- of two bits, the first bit lowest
 abbrev pub pairCosts : ℤ → ℤ → Quad
-pairCosts a b = record { c0 = bitCost a 0 + bitCost b 0; c1 = bitCost a 1 + bitCost b 0; c2 = bitCost a 0 + bitCost b 1; c3 = bitCost a 1 + bitCost b 1 }
+pairCosts a b = record {
+  c0 = bitCost a 0 + bitCost b 0;
+  c1 = bitCost a 1 + bitCost b 0;
+  c2 = bitCost a 0 + bitCost b 1;
+  c3 = bitCost a 1 + bitCost b 1;
+}
 
 pub record Small (p : Quad) : Type 0 where
   pub c0 : p .c0 ≤ 65536
@@ -54,7 +58,7 @@ wordCosts p q = record {
 -- ---- the windows of the empty prefix
 -- the last of four bits left free
 abbrev pub freeLast : Sixteen → Eight
-freeLast s = eight (λ c. min (getD (listed s) c 0) (getD (listed s) (c + 8) 0))
+freeLast s = eight (λ c. min (entry (lowOf s) c) (entry (highOf s) c))
 
 -- by the first of four bits
 abbrev pub woven : Eight → Eight → Sixteen
@@ -77,6 +81,6 @@ woven a b = record {
   x15 = b .c7;
 }
 
--- a node's window where no bit is decided, from its children's: the operator after each first bit, the fifth bit left free
+-- a node's window from its children's: the operator after each first bit, the fifth bit left free
 abbrev pub first32 : Cell → Cell → ℕ → ℕ
 first32 ca cb = at4 (λ x₁ x₂ x₃ x₄. least (λ f. op4w (read3 odd ca) (read3 odd cb) x₁ x₂ x₃ x₄ f))

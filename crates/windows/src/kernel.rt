@@ -1,3 +1,4 @@
+// The cluster: a node's window from its two children's.
 ghost use mathlib.Core.Path.{_≡_};
 ghost use Prim.Native.Nat.{_+_, _%_, _≤_, _^_, min};
 ghost use mathlib.Core.List.{[], _∷_};
@@ -11,6 +12,7 @@ use crate::window::Sixteen;
 use crate::window::least;
 use std::num::wrapping_add_u32;
 
+// The lesser of two sums. They wrap, so that nothing is asked of the costs; callers know that they are small.
 fn cell(a: u32, b: u32, c: u32, d: u32) -> u32
     ensures { λ r. ⌜ r ≡ min ((a + b) % 2 ^ 32) ((c + d) % 2 ^ 32) ⌝ }
 {
@@ -23,6 +25,7 @@ fn pick(e: u8, a: u32, b: u32) -> u32
     if e % 2 == 0 { a } else { b }
 }
 
+// The window of the first child where the last decided bit e is added to its first bit.
 pub(crate) fn flip(a: Eight, e: u8) -> Eight
     ensures { λ r. ⌜ r ≡ flipped (e % 2) a ⌝ }
 {
@@ -38,6 +41,7 @@ pub(crate) fn flip(a: Eight, e: u8) -> Eight
     }
 }
 
+// The operator where that bit is 0: of the children's bits a0 a1 a2 and b0 b1 b2 the last is free.
 pub(crate) fn combine(a: Eight, b: Eight) -> Sixteen
     ensures { λ r. ⌜ r ≡ sixteen (wrapOf (entry a) (entry b) 0) ⌝ }
 {
@@ -61,28 +65,31 @@ pub(crate) fn combine(a: Eight, b: Eight) -> Sixteen
     }
 }
 
-fn lift(a: Eight, b: Eight, e: u8, n: usize) -> Sixteen
-    ensures { λ r. ⌜ r ≡ masked n (sixteen (wrapOf (entry (flipped (e % 2) a)) (entry b) 0)) ⌝ }
+fn lift(a: Eight, b: Eight, e: u8, left: usize) -> Sixteen
+    ensures { λ r. ⌜ r ≡ masked left (sixteen (wrapOf (entry (flipped (e % 2) a)) (entry b) 0)) ⌝ }
 {
-    ends(combine(flip(a, e), b), n)
+    ends(combine(flip(a, e), b), left)
 }
 
-// One node's window, from its children's.
+// The window of a node whose last decided bit is e, with `left` places left, from its children's at
+// pa and pb, read at an even phase with the odd bits oa and ob, to the place `to`.
 pub fn node(
     t: &mut [u32],
     pa: usize,
     pb: usize,
-    po: usize,
+    to: usize,
     oa: u8,
     ob: u8,
     e: u8,
-    n: usize,
+    left: usize,
     even: bool,
 )
-    requires { ⌜ (pa + 16 ≤ length (now t)) × (pb + 16 ≤ length (now t)) × (po + 16 ≤ length (now t)) × (n % 2 ≡ 1) ⌝ }
-    ensures { λ _. ⌜ Wrote (lift32 n (kindB even) (tabAt (now (t .entry)) pa (oa % 2)) (tabAt (now (t .entry)) pb (ob % 2)) (e % 2)) po 16 (now (t .entry)) (now (t .exit)) ⌝ }
+    requires { ⌜ (pa + 16 ≤ length (now t)) × (pb + 16 ≤ length (now t)) × (to + 16 ≤ length (now t))
+        × (left % 2 ≡ 1) ⌝ }
+    ensures { λ _. ⌜ Wrote (lift32 left (kindB even) (tabAt (now (t .entry)) pa (oa % 2))
+        (tabAt (now (t .entry)) pb (ob % 2)) (e % 2)) to 16 (now (t .entry)) (now (t .exit)) ⌝ }
 {
     let a = read(t, pa, oa, even);
     let b = read(t, pb, ob, even);
-    store(t, po, lift(a, b, e, n));
+    store(t, to, lift(a, b, e, left));
 }

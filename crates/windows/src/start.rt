@@ -14,7 +14,9 @@ use crate::table::store;
 use crate::top::Pair;
 use crate::window::Eight;
 use crate::window::Sixteen;
-use crate::window::least;
+use crate::window::high;
+use crate::window::least_each;
+use crate::window::low;
 
 // The costs of two bits: of 00, 10, 01 and 11, the first bit first.
 pub(crate) struct Quad {
@@ -106,27 +108,18 @@ fn bottom_costs(a: i16, b: i16, c: i16, d: i16) -> Sixteen
 }
 
 // A bottom node's costs, from its four soft values.
-pub fn first_costs(t: &mut [u32], po: usize, a: i16, b: i16, c: i16, d: i16)
-    requires { ⌜ po + 16 ≤ length (now t) ⌝ }
-    ensures { λ _. ⌜ Wrote (F (a ∷ b ∷ c ∷ d ∷ [])) po 16 (now (t .entry)) (now (t .exit)) ⌝ }
+pub fn first_costs(t: &mut [u32], to: usize, a: i16, b: i16, c: i16, d: i16)
+    requires { ⌜ to + 16 ≤ length (now t) ⌝ }
+    ensures { λ _. ⌜ Wrote (F (a ∷ b ∷ c ∷ d ∷ [])) to 16 (now (t .entry)) (now (t .exit)) ⌝ }
 {
-    store(t, po, bottom_costs(a, b, c, d));
+    store(t, to, bottom_costs(a, b, c, d));
 }
 
-// The window's last bit is left free.
+// A window's last bit is left free.
 fn free_last(s: Sixteen) -> Eight
     ensures { λ r. ⌜ r ≡ freeLast s ⌝ }
 {
-    Eight {
-        c0: least(s.x0, s.x8),
-        c1: least(s.x1, s.x9),
-        c2: least(s.x2, s.x10),
-        c3: least(s.x3, s.x11),
-        c4: least(s.x4, s.x12),
-        c5: least(s.x5, s.x13),
-        c6: least(s.x6, s.x14),
-        c7: least(s.x7, s.x15),
-    }
+    least_each(low(s), high(s))
 }
 
 // A window by its first bit: a where it is 0, b where it is 1.
@@ -155,7 +148,8 @@ fn weave(a: Eight, b: Eight) -> Sixteen
 
 // The window by its first bit, each half with the fifth bit left free.
 fn first_window(a: Eight, b: Eight) -> Sixteen
-    ensures { λ r. ⌜ r ≡ woven (freeLast (sixteen (wrapOf (entry a) (entry b) 0))) (freeLast (sixteen (wrapOf (entry (flipped 1 a)) (entry b) 0))) ⌝ }
+    ensures { λ r. ⌜ r ≡ woven (freeLast (sixteen (wrapOf (entry a) (entry b) 0)))
+        (freeLast (sixteen (wrapOf (entry (flipped 1 a)) (entry b) 0))) ⌝ }
 {
     let zero = combine(a, b);
     let one = combine(flip(a, 1), b);
@@ -163,11 +157,12 @@ fn first_window(a: Eight, b: Eight) -> Sixteen
 }
 
 // A node's window of the empty prefix, from its children's.
-pub fn first_node(t: &mut [u32], pa: usize, pb: usize, po: usize)
-    requires { ⌜ (pa + 16 ≤ length (now t)) × (pb + 16 ≤ length (now t)) × (po + 16 ≤ length (now t)) ⌝ }
-    ensures { λ _. ⌜ Wrote (first32 (tabAt (now (t .entry)) pa 0) (tabAt (now (t .entry)) pb 0)) po 16 (now (t .entry)) (now (t .exit)) ⌝ }
+pub fn first_node(t: &mut [u32], pa: usize, pb: usize, to: usize)
+    requires { ⌜ (pa + 16 ≤ length (now t)) × (pb + 16 ≤ length (now t)) × (to + 16 ≤ length (now t)) ⌝ }
+    ensures { λ _. ⌜ Wrote (first32 (tabAt (now (t .entry)) pa 0) (tabAt (now (t .entry)) pb 0)) to 16
+        (now (t .entry)) (now (t .exit)) ⌝ }
 {
     let a = read_odd(t, pa);
     let b = read_odd(t, pb);
-    store(t, po, first_window(a, b));
+    store(t, to, first_window(a, b));
 }

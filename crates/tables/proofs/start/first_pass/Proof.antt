@@ -2,11 +2,10 @@ use mathlib.Core.Path.{_≡_}
 use mathlib.Core.List.{List}
 use Prim.Native.Nat.{ℕ, _+_, _-_, _*_, _≤_}
 use native.Mathlib.Omega.{arith}
-use borrow.Author.Needs.{needs}
 use denote.Ref.{now}
 use Rattle.tables.specs.Start.{firstF}
 use Rattle.tables.specs.Tab.{WroteRows}
-use Rattle.tables.proofs.Laws.{rows-none, rows-more}
+use Rattle.tables.proofs.Rows.{rows-more, rows-none}
 use Rattle.tables.proofs.Starting.{first-same}
 use Rattle.tables.proofs.start.first_pass.Statement.{statement}
 use Rattle.tables.proofs.start.first_pass.Tie as tie
@@ -19,38 +18,41 @@ abbrev μ-loop : tie.MeasureT-loop
 
 loop-holds : tie.Need-loop-holds Inv-loop μ-loop
 loop-holds c =
-    let s = c .before in
-    (omega arith, rows-none (firstF (s .args .src) (s .args .w) (now (s .args .t))) (16 * s .args .dst) 16 (now (s .args .t)))
+    let s = c .before in (
+      omega arith,
+      rows-none (firstF (s .args .src) (s .args .w) (now (s .args .t))) (16 * s .args .dst) 16
+          (now (s .args .t)),
+    )
 
 add-first-node : tie.Need-add-first-node Inv-loop μ-loop
-add-first-node c = search needs
+add-first-node c = omega arith
 
 mul-first-node : tie.Need-mul-first-node Inv-loop μ-loop
-mul-first-node c = search needs
+mul-first-node c = omega arith
 
 add-first-node-2 : tie.Need-add-first-node-2 Inv-loop μ-loop
-add-first-node-2 c = search needs
+add-first-node-2 c = omega arith
 
 add-first-node-3 : tie.Need-add-first-node-3 Inv-loop μ-loop
-add-first-node-3 c = search needs
+add-first-node-3 c = omega arith
 
 mul-first-node-2 : tie.Need-mul-first-node-2 Inv-loop μ-loop
-mul-first-node-2 c = search needs
+mul-first-node-2 c = omega arith
 
 add-first-node-4 : tie.Need-add-first-node-4 Inv-loop μ-loop
-add-first-node-4 c = search needs
+add-first-node-4 c = omega arith
 
 mul-first-node-3 : tie.Need-mul-first-node-3 Inv-loop μ-loop
-mul-first-node-3 c = search needs
+mul-first-node-3 c = omega arith
 
 first-node-requires : tie.Need-first-node-requires Inv-loop μ-loop
-first-node-requires c κs = search needs
+first-node-requires c κs = omega arith
 
 add-i : tie.Need-add-i Inv-loop μ-loop
-add-i c = search needs
+add-i c = omega arith
 
 loop-less : tie.Need-loop-less Inv-loop μ-loop
-loop-less c = search needs
+loop-less c = omega arith
 
 loop-again : tie.Need-loop-again Inv-loop μ-loop
 loop-again c =
@@ -58,12 +60,14 @@ loop-again c =
     let l = c .before .before .before .before .before .loop in
     let T : List ℕ = now (s .args .t) in (
       omega arith,
-      rows-more (firstF (s .args .src) (s .args .w) T) (16 * s .args .dst) 16 T (firstF (s .args .src) (s .args .w) (l .t) (l .i)) (l .i) (16 * (s .args .dst + l .i)) (l .t) (c .before .before .first-node .last .0) (omega arith) (l .inv .1) (c .before .before .first-node .ensures)
+      rows-more (firstF (s .args .src) (s .args .w) T) (16 * s .args .dst) 16 T
+          (firstF (s .args .src) (s .args .w) (l .t) (l .i)) (l .i) (16 * (s .args .dst + l .i)) (l .t)
+          (c .before .before .first-node .last .0) (omega arith) (l .inv .1) (c .before .before .first-node .ensures)
           (λ m _. first-same (s .args .src) (s .args .w) T (l .t) (λ j h. l .inv .1 .above j (omega arith)) (l .i) m),
     )
 
 same-length : tie.Need-same-length Inv-loop μ-loop
-same-length c = search needs
+same-length c = omega arith
 
 returns : tie.Need-returns Inv-loop μ-loop
 returns c =

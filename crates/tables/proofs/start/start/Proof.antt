@@ -1,11 +1,10 @@
-use lib.IntN.{ℤ}
 use mathlib.Core.Path.{_≡_, _∙_}
-use mathlib.Core.List.{List}
-use Prim.Native.Nat.{ℕ, _-_, _≤_}
+use Prim.Native.Nat.{_-_, _≤_}
 use native.Mathlib.Omega.{arith}
-use borrow.Author.Needs.{needs}
 use denote.Ref.{now}
-use Rattle.tables.proofs.Starting.{Starting, bottom-fits, start-fits, start-bottom, start-again, start-more, start-done}
+use borrow.Author.Needs.{needs}
+use Rattle.tables.proofs.Starting.{Starting, bottom-fits, start-again, start-bottom, start-done, start-fits}
+use Rattle.tables.proofs.Starting.{start-more}
 use Rattle.tables.proofs.start.start.Statement.{statement}
 use Rattle.tables.proofs.start.start.Tie as tie
 
@@ -21,59 +20,78 @@ lay-costs-requires c κs = search needs
 place-requires : tie.Need-place-requires Inv-loop μ-loop
 place-requires c κs =
     let s = c .before .before .before .before .before .before in
-    let Y : List ℤ = now (s .args .soft) in
-    let T : List ℕ = now (s .args .t) in
-    let f : s .args .q ≤ 256 = bottom-fits (s .args .deep) (s .args .q) (s .args .l) (s .args .h) Y T (s .pre) .2 in
+    let f : s .args .q ≤ 256
+    = bottom-fits (s .args .deep) (s .args .q) (s .args .l) (s .args .h) (now (s .args .soft)) (now (s .args .t))
+    (s .pre) .2 in
     (omega arith, s .pre .long, omega arith)
 
 lay-costs-requires-2 : tie.Need-lay-costs-requires-2 Inv-loop μ-loop
 lay-costs-requires-2 c κs =
-    let s = c .before .before .before .before .before .before .before in
-    let Y : List ℤ = now (s .args .soft) in
-    let T : List ℕ = now (s .args .t) in
-    let f = bottom-fits (s .args .deep) (s .args .q) (s .args .l) (s .args .h) Y T (s .pre) in
-    (omega (arith, f .0, c .place .ensures .is, c .before .before .before .before .lay-costs .ensures .same), f .1)
+    let k = c .before .before .before .before in
+    let s = k .before .before .before in
+    let f = bottom-fits (s .args .deep) (s .args .q) (s .args .l) (s .args .h) (now (s .args .soft))
+    (now (s .args .t)) (s .pre) in
+    (omega (arith, f .0, c .place .ensures .is, k .lay-costs .ensures .same), f .1)
 
 loop-holds : tie.Need-loop-holds Inv-loop μ-loop
 loop-holds c =
-    let s = c .before .before .before .before .before .before .before .before .before .before in
-    let Y : List ℤ = now (s .args .soft) in
-    let T : List ℕ = now (s .args .t) in
-    start-again (s .args .deep) (s .args .q) (s .args .l) (s .args .h) Y T (s .pre) (s .args .q) (c .before .before .lay-costs2 .last .0) (start-bottom (s .args .deep) (s .args .q) (s .args .l) (s .args .h) Y T (s .pre) (c .before .before .before .before .before .before .before .lay-costs .last .0) (c .before .before .lay-costs2 .last .0) (c .before .before .before .before .before .before .before .lay-costs .ensures) (rw (c .before .before .before .place .ensures .is) at (c .before .before .lay-costs2 .ensures)))
+    let m = c .before .before in
+    let p = m .before in
+    let k = p .before .before .before .before in
+    let s = k .before .before .before in
+    start-again (s .args .deep) (s .args .q) (s .args .l) (s .args .h) (now (s .args .soft)) (now (s .args .t))
+    (s .pre) (s .args .q) (m .lay-costs2 .last .0)
+    (start-bottom (s .args .deep) (s .args .q) (s .args .l) (s .args .h) (now (s .args .soft)) (now (s .args .t))
+    (s .pre) (k .lay-costs .last .0) (m .lay-costs2 .last .0) (k .lay-costs .ensures)
+    (rw (p .place .ensures .is) at (m .lay-costs2 .ensures)))
 
 sub-d : tie.Need-sub-d Inv-loop μ-loop
 sub-d c = search needs
 
 first-layer-requires : tie.Need-first-layer-requires Inv-loop μ-loop
 first-layer-requires c κs =
-    let s = c .before .before .before .before .before .before .before .before .before .before .before .before .before in
-    let Y : List ℤ = now (s .args .soft) in
-    let T : List ℕ = now (s .args .t) in
-    let l = c .before .before .loop in
-    start-fits (s .args .deep) (s .args .q) (s .args .l) (s .args .h) Y T (s .pre) (l .d) (l .w) (l .t) (c .before .before .before .before .before .lay-costs2 .last .0) (l .inv .rest .same ∙ c .before .before .before .before .before .lay-costs2 .ensures .same ∙ c .before .before .before .before .before .before .before .before .before .before .lay-costs .ensures .same) (c .before .loop-test .taken) (l .inv)
+    let v = c .before .before in
+    let m = v .before .before .before in
+    let k = m .before .before .before .before .before in
+    let s = k .before .before .before in
+    let l = v .loop in
+    start-fits (s .args .deep) (s .args .q) (s .args .l) (s .args .h) (now (s .args .soft)) (now (s .args .t))
+    (s .pre) (l .d) (l .w) (l .t) (m .lay-costs2 .last .0)
+    (l .inv .rest .same ∙ m .lay-costs2 .ensures .same ∙ k .lay-costs .ensures .same) (c .before .loop-test .taken)
+    (l .inv)
 
 loop-less : tie.Need-loop-less Inv-loop μ-loop
 loop-less c = search needs
 
 loop-again : tie.Need-loop-again Inv-loop μ-loop
 loop-again c =
-    let s = c .before .before .before .before .before .before .before .before .before .before .before .before .before .before .before .before in
-    let Y : List ℤ = now (s .args .soft) in
-    let T : List ℕ = now (s .args .t) in
-    let l = c .before .before .before .before .before .loop in
-    start-more (s .args .deep) (s .args .q) (s .args .l) (s .args .h) Y T (s .pre) (l .d) (l .w) (c .before .before .before .before .before .before .before .before .lay-costs2 .last .0) (l .t) (c .before .before .first-layer .last .0) (c .before .before .before .before .loop-test .taken) (l .inv) (c .before .before .first-layer .ensures)
+    let f = c .before .before in
+    let g = f .before .before in
+    let v = g .before in
+    let m = v .before .before .before in
+    let s = m .before .before .before .before .before .before .before .before in
+    let l = v .loop in
+    start-more (s .args .deep) (s .args .q) (s .args .l) (s .args .h) (now (s .args .soft)) (now (s .args .t))
+    (s .pre) (l .d) (l .w) (m .lay-costs2 .last .0) (l .t) (f .first-layer .last .0)
+    (g .loop-test .taken) (l .inv) (f .first-layer .ensures)
 
 same-length : tie.Need-same-length Inv-loop μ-loop
 same-length c = search needs
 
 returns : tie.Need-returns Inv-loop μ-loop
 returns c =
-    let s = c .before .before .before .before .before .before .before .before .before .before .before .before in
-    let Y : List ℤ = now (s .args .soft) in
-    let T : List ℕ = now (s .args .t) in
-    let l = c .before .loop in
+    let v = c .before in
+    let m = v .before .before .before in
+    let p = m .before in
+    let k = p .before .before .before .before in
+    let s = k .before .before .before in
+    let l = v .loop in
     let e : l .d ≡ 0 = omega arith in
-    start-done (s .args .deep) (s .args .q) (s .args .l) (s .args .h) Y T (s .pre) (s .args .q) (l .w) (c .before .before .before .before .lay-costs2 .last .0) (l .t) (start-bottom (s .args .deep) (s .args .q) (s .args .l) (s .args .h) Y T (s .pre) (c .before .before .before .before .before .before .before .before .before .lay-costs .last .0) (c .before .before .before .before .lay-costs2 .last .0) (c .before .before .before .before .before .before .before .before .before .lay-costs .ensures) (rw (c .before .before .before .before .before .place .ensures .is) at (c .before .before .before .before .lay-costs2 .ensures))) (rw e at (l .inv))
+    start-done (s .args .deep) (s .args .q) (s .args .l) (s .args .h) (now (s .args .soft)) (now (s .args .t))
+    (s .pre) (s .args .q) (l .w) (m .lay-costs2 .last .0) (l .t)
+    (start-bottom (s .args .deep) (s .args .q) (s .args .l) (s .args .h) (now (s .args .soft)) (now (s .args .t))
+    (s .pre) (k .lay-costs .last .0) (m .lay-costs2 .last .0) (k .lay-costs .ensures)
+    (rw (p .place .ensures .is) at (m .lay-costs2 .ensures))) (rw e at (l .inv))
 
 pub start-spec : {M : Type 1} → statement M
 start-spec =

@@ -1,18 +1,18 @@
-use Rattle.tables.proofs.Walks.{fits, field-cases, pow-next, phase-next, descend-more}
 use mathlib.Core.Path.{_≡_, refl, _∙_}
-use Prim.Native.Nat.{_-_, _*_, _≤_, _<_}
+use Prim.Native.Nat.{_-_, _*_, _≤_, _<_, _%_, _/_, _^_}
 use native.Mathlib.Omega.{arith}
-use borrow.Author.Needs.{needs}
 use lib.ListN.{length}
 use denote.Ref.{now}
-use Prim.Native.Nat.{_%_, _/_, _^_}
+use borrow.Author.Needs.{needs}
 use Rattle.laws.specs.Nodes.{phase}
 use Rattle.tables.specs.Walk.{Descent}
+use Rattle.tables.proofs.Walks.{descend-more, field-cases, fits, phase-next, pow-next}
 use Rattle.tables.proofs.walk.descend.Statement.{statement}
 use Rattle.tables.proofs.walk.descend.Tie as tie
 
 abbrev Inv-loop : tie.InvT-loop
-Inv-loop b₀ slots n deep e count l h d₀ w₀ p₀ b d w p = (d ≤ e) × (w ≡ 2 ^ d) × (p ≡ phase d n) × (length b ≡ length b₀) × Descent deep l h count n d slots b₀ b
+Inv-loop b₀ slots n deep e count l h d₀ w₀ p₀ b d w p = (d ≤ e) × (w ≡ 2 ^ d) × (p ≡ phase d n)
+    × (length b ≡ length b₀) × Descent deep l h count n d slots b₀ b
 
 abbrev μ-loop : tie.MeasureT-loop
 μ-loop b₀ slots n deep e count l h d₀ w₀ p₀ b d w p = e - d
@@ -41,7 +41,8 @@ push-requires c κs =
     let s = c .before .before .before .before .before .before in
     let l = c .before .before .before .loop in
     let k : l .d < s .args .e = c .before .before .loop-test .taken in (
-      fits (s .args .deep) (s .args .l) (s .args .h) (s .args .count) (s .args .n) (s .args .e) (now (s .args .b)) (l .b) (now (s .args .slots)) (l .d) (l .w) (s .pre .0) k (l .inv .1) (l .inv .3),
+      fits (s .args .deep) (s .args .l) (s .args .h) (s .args .count) (s .args .n) (s .args .e) (now (s .args .b))
+          (l .b) (now (s .args .slots)) (l .d) (l .w) (s .pre .0) k (l .inv .1) (l .inv .3),
       s .pre .0 .odds (l .d) (omega (arith, s .pre .0 .far)),
       s .pre .0 .few,
       rw (c .field .ensures) (field-cases (s .args .h) ((l .p - 1) / 2 % 2)),
@@ -52,7 +53,9 @@ mul-w c =
     let s = c .before .before .before .before .before .before .before .before .before in
     let l = c .before .before .before .before .before .before .loop in
     let k : l .d < s .args .e = c .before .before .before .before .before .loop-test .taken in
-    let m : 2 * l .w ≤ 1024 = fits (s .args .deep) (s .args .l) (s .args .h) (s .args .count) (s .args .n) (s .args .e) (now (s .args .b)) (l .b) (now (s .args .slots)) (l .d) (l .w) (s .pre .0) k (l .inv .1) (l .inv .3) .wide in
+    let m : 2 * l .w ≤ 1024
+    = fits (s .args .deep) (s .args .l) (s .args .h) (s .args .count) (s .args .n) (s .args .e)
+    (now (s .args .b)) (l .b) (now (s .args .slots)) (l .d) (l .w) (s .pre .0) k (l .inv .1) (l .inv .3) .wide in
     search needs
 
 add-d : tie.Need-add-d Inv-loop μ-loop
@@ -71,7 +74,10 @@ loop-again c =
       omega (arith, l .inv .1, pow-next (l .d)),
       phase-next (l .d) (s .args .n) (l .p) (l .inv .2),
       a .same ∙ l .inv .3,
-      descend-more (s .args .deep) (s .args .l) (s .args .h) (s .args .count) (s .args .n) (s .args .e) (now (s .args .b)) (l .b) (c .before .before .push .last .0) (now (s .args .slots)) (l .d) (l .w) (l .p) (c .before .before .before .field .result) (s .pre .0) k (l .inv .1) (l .inv .2) (c .before .before .before .field .ensures) (l .inv .4) a,
+      descend-more (s .args .deep) (s .args .l) (s .args .h) (s .args .count) (s .args .n) (s .args .e)
+          (now (s .args .b)) (l .b) (c .before .before .push .last .0) (now (s .args .slots)) (l .d) (l .w) (l .p)
+          (c .before .before .before .field .result) (s .pre .0) k (l .inv .1) (l .inv .2)
+          (c .before .before .before .field .ensures) (l .inv .4) a,
     )
 
 same-length : tie.Need-same-length Inv-loop μ-loop

@@ -1,19 +1,16 @@
-use Rattle.tables.proofs.Rises.{named-own, named-odd, kept-rows}
-use Rattle.tables.proofs.Ending.{ends-a, ends-b, ends-c, size-odd, end-odd, end-first, end-ground}
-use mathlib.Core.Path.{_≡_, refl}
-use Prim.Native.Nat.{_+_, _-_, _<_}
+use Prim.Native.Nat.{_-_}
 use native.Mathlib.Omega.{arith}
 use denote.Ref.{now}
 use borrow.Author.Needs.{needs}
+use Rattle.tables.proofs.Ending.{odd-asks, end-odd, ground-asks, end-ground, size-some, first-asks, end-first}
 use Rattle.tables.proofs.walk.turn.Statement.{statement}
 use Rattle.tables.proofs.walk.turn.Tie as tie
 
 turn-odd-requires : tie.Need-turn-odd-requires
 turn-odd-requires c κs =
     let s = c .before .before .before .before .before .before in
-    let a = s .pre in
-    let o = a .names .odds (s .args .e) (a .climbs .far) .there in
-    (ends-b (s .args .deep) (s .args .l) (s .args .h) (s .args .count) (s .args .n) (s .args .e) (s .args .w) (s .args .x) (s .args .size) (now (s .args .t)) (now (s .args .b)) (now (s .args .slots)) a, (a .names .windows (s .args .e) (a .climbs .far), a .climbs .few, omega (arith, a .climbs .far, a .climbs .deepest), o))
+    odd-asks (s .args .deep) (s .args .l) (s .args .h) (s .args .count) (s .args .n) (s .args .e) (s .args .w)
+    (s .args .x) (s .args .size) (now (s .args .t)) (now (s .args .b)) (now (s .args .slots)) (s .pre)
 
 same-length : tie.Need-same-length
 same-length c = search needs
@@ -23,20 +20,24 @@ same-length-2 c = search needs
 
 returns : tie.Need-returns
 returns c =
-    let s = c .before .before .before .before .before .before .before .before .before .before .before in
-    let a = c .before .before .before .before .turn-odd .ensures in
-    (named-odd (s .args .deep) (s .args .l) (s .args .count) (s .args .e) (now (s .args .slots)) (c .before .before .before .before .turn-odd .last .1 .0) (s .pre .climbs .few) (s .pre .climbs .long) (s .pre .climbs .deepest) (s .pre .climbs .far) (a .1) (s .pre .names), (λ j q. refl), end-odd (s .args .deep) (s .args .l) (s .args .h) (s .args .count) (s .args .n) (s .args .e) (s .args .w) (s .args .x) (s .args .size) (now (s .args .t)) (now (s .args .b)) (now (s .args .slots)) (s .pre) (c .before .before .before .before .turn-odd .last .0) (c .before .before .before .before .turn-odd .last .1 .0) (omega (arith, c .before .before .before .before .before .before .before .if1 .taken)) (a .0) (a .1))
+    let u = c .before .before .before .before in
+    let f = u .before .before .before in
+    let s = f .before .before .before .before in
+    end-odd (s .args .deep) (s .args .l) (s .args .h) (s .args .count) (s .args .n) (s .args .e) (s .args .w)
+    (s .args .x) (s .args .size) (now (s .args .t)) (now (s .args .b)) (now (s .args .slots)) (s .pre)
+    (u .turn-odd .last .0) (u .turn-odd .last .1 .0) (omega (arith, f .if1 .taken)) (u .turn-odd .ensures .0)
+    (u .turn-odd .ensures .1)
 
 is-two-requires : tie.Need-is-two-requires
 is-two-requires c κs = search needs
 
 turn-ground-requires : tie.Need-turn-ground-requires
 turn-ground-requires c κs =
-    let s = c .before .before .before .before .before .before .before .before .before in
-    let a = s .pre in
-    let q : s .args .e ≡ s .args .deep = omega (arith, c .before .before .before .before .if2 .taken) in
-    let o = a .names .windows (s .args .e) (a .climbs .far) .there in
-    (ends-c (s .args .deep) (s .args .l) (s .args .h) (s .args .count) (s .args .n) (s .args .e) (s .args .w) (s .args .x) (s .args .size) (now (s .args .t)) (now (s .args .b)) (now (s .args .slots)) a q, (a .names .odds (s .args .e) (a .climbs .far), a .climbs .few, omega (arith, a .climbs .far, a .climbs .deepest), o))
+    let f = c .before .before .before .before in
+    let s = f .before .before .before .before .before in
+    ground-asks (s .args .deep) (s .args .l) (s .args .h) (s .args .count) (s .args .n) (s .args .e) (s .args .w)
+    (s .args .x) (s .args .size) (now (s .args .t)) (now (s .args .b)) (now (s .args .slots)) (s .pre)
+    (omega (arith, f .if2 .taken))
 
 same-length-3 : tie.Need-same-length-3
 same-length-3 c = search needs
@@ -49,24 +50,30 @@ same-length-5 c = search needs
 
 returns-2 : tie.Need-returns-2
 returns-2 c =
-    let s = c .before .before .before .before .before .before .before .before .before .before .before .before .before .before in
-    let a = c .before .before .before .before .turn-ground .ensures in
-    (named-own (s .args .deep) (s .args .l) (s .args .count) (s .args .e) (now (s .args .slots)) (c .before .before .before .before .turn-ground .last .1 .1 .0) (s .pre .climbs .few) (s .pre .climbs .long) (s .pre .climbs .deepest) (s .pre .climbs .far) (a .1) (s .pre .names), kept-rows _ (s .args .w) (s .args .l) (s .args .h) (s .args .count) (now (s .args .t)) (c .before .before .before .before .turn-ground .last .0) (s .pre .climbs .few) (ends-b (s .args .deep) (s .args .l) (s .args .h) (s .args .count) (s .args .n) (s .args .e) (s .args .w) (s .args .x) (s .args .size) (now (s .args .t)) (now (s .args .b)) (now (s .args .slots)) (s .pre) .low) (a .0), end-ground (s .args .deep) (s .args .l) (s .args .h) (s .args .count) (s .args .n) (s .args .e) (s .args .w) (s .args .x) (s .args .size) (now (s .args .t)) (now (s .args .b)) (now (s .args .slots)) (c .before .before .before .before .turn-ground .last .0) (c .before .before .before .before .turn-ground .last .1 .1 .0) (c .before .before .before .before .before .is-two .result) (s .pre) (omega (arith, c .before .before .before .before .before .before .before .before .before .if2 .taken)) (λ e. omega (arith, c .before .before .before .before .before .before .before .before .before .before .if1 .left)) (c .before .before .before .before .before .is-two .ensures) (a .0) (a .1))
+    let u = c .before .before .before .before in
+    let z = u .before in
+    let f = z .before .before .before .before in
+    let g = f .before in
+    let s = g .before .before .before .before in
+    end-ground (s .args .deep) (s .args .l) (s .args .h) (s .args .count) (s .args .n) (s .args .e) (s .args .w)
+    (s .args .x) (s .args .size) (now (s .args .t)) (now (s .args .b)) (now (s .args .slots))
+    (u .turn-ground .last .0) (u .turn-ground .last .1 .1 .0) (z .is-two .result) (s .pre)
+    (omega (arith, f .if2 .taken)) (λ e. omega (arith, g .if1 .left))
+    (z .is-two .ensures) (u .turn-ground .ensures .0) (u .turn-ground .ensures .1)
 
 sub-rise : tie.Need-sub-rise
 sub-rise c =
     let s = c .before .before .before .before .before .before .before .before in
-    let a = s .pre in
-    let q : s .args .e < s .args .deep = omega (arith, c .before .before .before .if2 .left, a .climbs .far) in
-    size-odd (s .args .deep) (s .args .l) (s .args .h) (s .args .count) (s .args .n) (s .args .e) (s .args .w) (s .args .x) (s .args .size) (now (s .args .t)) (now (s .args .b)) (now (s .args .slots)) a q .1
+    size-some (s .args .deep) (s .args .l) (s .args .h) (s .args .count) (s .args .n) (s .args .e) (s .args .w)
+    (s .args .x) (s .args .size) (now (s .args .t)) (now (s .args .b)) (now (s .args .slots)) (s .pre) .1
 
 rise-requires : tie.Need-rise-requires
 rise-requires c κs =
-    let s = c .before .before .before .before .before .before .before .before in
-    let a = s .pre in
-    let q : s .args .e < s .args .deep = omega (arith, c .before .before .before .if2 .left, a .climbs .far) in
-    let o = a .names .windows (s .args .e) (a .climbs .far) .there in
-    (ends-a (s .args .deep) (s .args .l) (s .args .h) (s .args .count) (s .args .n) (s .args .e) (s .args .w) (s .args .x) (s .args .size) (now (s .args .t)) (now (s .args .b)) (now (s .args .slots)) a q, (a .names .windows (s .args .e + 1) (omega arith), a .names .odds (s .args .e + 1) (omega arith), a .climbs .few, size-odd (s .args .deep) (s .args .l) (s .args .h) (s .args .count) (s .args .n) (s .args .e) (s .args .w) (s .args .x) (s .args .size) (now (s .args .t)) (now (s .args .b)) (now (s .args .slots)) a q .0, omega (arith, a .climbs .far, a .climbs .deepest), o))
+    let f = c .before .before .before in
+    let s = f .before .before .before .before .before in
+    first-asks (s .args .deep) (s .args .l) (s .args .h) (s .args .count) (s .args .n) (s .args .e) (s .args .w)
+    (s .args .x) (s .args .size) (now (s .args .t)) (now (s .args .b)) (now (s .args .slots)) (s .pre)
+    (omega (arith, f .if2 .left, s .pre .climbs .far))
 
 same-length-6 : tie.Need-same-length-6
 same-length-6 c = search needs
@@ -79,9 +86,14 @@ same-length-8 c = search needs
 
 returns-3 : tie.Need-returns-3
 returns-3 c =
-    let s = c .before .before .before .before .before .before .before .before .before .before .before .before .before in
-    let a = c .before .before .before .before .rise .ensures in
-    (named-own (s .args .deep) (s .args .l) (s .args .count) (s .args .e) (now (s .args .slots)) (c .before .before .before .before .rise .last .1 .1 .0) (s .pre .climbs .few) (s .pre .climbs .long) (s .pre .climbs .deepest) (s .pre .climbs .far) (a .1) (s .pre .names), kept-rows _ (s .args .w) (s .args .l) (s .args .h) (s .args .count) (now (s .args .t)) (c .before .before .before .before .rise .last .0) (s .pre .climbs .few) (ends-b (s .args .deep) (s .args .l) (s .args .h) (s .args .count) (s .args .n) (s .args .e) (s .args .w) (s .args .x) (s .args .size) (now (s .args .t)) (now (s .args .b)) (now (s .args .slots)) (s .pre) .low) (a .0), end-first (s .args .deep) (s .args .l) (s .args .h) (s .args .count) (s .args .n) (s .args .e) (s .args .w) (s .args .x) (s .args .size) (now (s .args .t)) (now (s .args .b)) (now (s .args .slots)) (s .pre) (c .before .before .before .before .rise .last .0) (c .before .before .before .before .rise .last .1 .1 .0) (λ e. omega (arith, c .before .before .before .before .before .before .before .before .before .if1 .left)) (omega (arith, c .before .before .before .before .before .before .before .before .if2 .left, s .pre .climbs .far)) (a .0) (a .1))
+    let u = c .before .before .before .before in
+    let f = u .before .before .before .before in
+    let g = f .before in
+    let s = g .before .before .before .before in
+    end-first (s .args .deep) (s .args .l) (s .args .h) (s .args .count) (s .args .n) (s .args .e) (s .args .w)
+    (s .args .x) (s .args .size) (now (s .args .t)) (now (s .args .b)) (now (s .args .slots)) (s .pre)
+    (u .rise .last .0) (u .rise .last .1 .1 .0) (λ e. omega (arith, g .if1 .left))
+    (omega (arith, f .if2 .left, s .pre .climbs .far)) (u .rise .ensures .0) (u .rise .ensures .1)
 
 pub turn-spec : {M : Type 1} → statement M
 turn-spec =

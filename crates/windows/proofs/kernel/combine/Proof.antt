@@ -1,6 +1,6 @@
-use Rattle.windows.specs.Op.{wrapOf}
-use Rattle.windows.proofs.Laws.{sixteen-ext}
 use borrow.Author.Needs.{needs}
+use Rattle.windows.specs.Op.{wrapOf}
+use Rattle.windows.proofs.Records.{sixteen-ext}
 use Rattle.windows.proofs.kernel.combine.Statement.{statement}
 use Rattle.windows.proofs.kernel.combine.Tie as tie
 
@@ -55,15 +55,16 @@ cell-requires-16 c κs = search needs
 returns : tie.Need-returns
 unfolding wrapOf
 returns c =
+    let m = c .before .before .before .before .before .before .before .before in
     sixteen-ext _ _
-    (c .before .before .before .before .before .before .before .before .before .before .before .before .before .before .before .cell .ensures)
-    (c .before .before .before .before .before .before .before .before .before .before .before .before .before .before .cell2 .ensures)
-    (c .before .before .before .before .before .before .before .before .before .before .before .before .before .cell3 .ensures)
-    (c .before .before .before .before .before .before .before .before .before .before .before .before .cell4 .ensures)
-    (c .before .before .before .before .before .before .before .before .before .before .before .cell5 .ensures)
-    (c .before .before .before .before .before .before .before .before .before .before .cell6 .ensures)
-    (c .before .before .before .before .before .before .before .before .before .cell7 .ensures)
-    (c .before .before .before .before .before .before .before .before .cell8 .ensures)
+    (m .before .before .before .before .before .before .before .cell .ensures)
+    (m .before .before .before .before .before .before .cell2 .ensures)
+    (m .before .before .before .before .before .cell3 .ensures)
+    (m .before .before .before .before .cell4 .ensures)
+    (m .before .before .before .cell5 .ensures)
+    (m .before .before .cell6 .ensures)
+    (m .before .cell7 .ensures)
+    (m .cell8 .ensures)
     (c .before .before .before .before .before .before .before .cell9 .ensures)
     (c .before .before .before .before .before .before .cell10 .ensures)
     (c .before .before .before .before .before .cell11 .ensures)

@@ -1,8 +1,8 @@
-use Rattle.windows.specs.Op.{masked, sixteen, wrapOf, entry}
-use Rattle.windows.specs.declared.window.Eight.{Eight}
 use mathlib.Core.Path.{ap, _∙_}
 use Prim.Native.Nat.{_-_}
 use borrow.Author.Needs.{needs}
+use Rattle.windows.specs.declared.window.Eight.{Eight}
+use Rattle.windows.specs.Op.{masked, sixteen, wrapOf, entry}
 use Rattle.windows.proofs.kernel.lift.Statement.{statement}
 use Rattle.windows.proofs.kernel.lift.Tie as tie
 
@@ -18,7 +18,9 @@ ends-requires c κs = search needs
 returns : tie.Need-returns
 returns c =
     let s = c .before .before .before in
-    c .ends .ensures ∙ ap (masked (s .args .n)) (c .before .combine .ensures ∙ ap (λ (y : Eight). sixteen (wrapOf (entry y) (entry (s .args .b)) 0)) (c .before .before .flip .ensures))
+    c .ends .ensures ∙ ap (masked (s .args .left))
+    (c .before .combine .ensures
+    ∙ ap (λ (y : Eight). sixteen (wrapOf (entry y) (entry (s .args .b)) 0)) (c .before .before .flip .ensures))
 
 pub lift-spec : {M : Type 1} → statement M
 lift-spec = tie.close (tie.spec flip-requires combine-requires ends-requires returns)

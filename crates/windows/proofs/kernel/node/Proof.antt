@@ -1,14 +1,12 @@
-use denote.Ref.{now}
-use Prim.Native.Nat.{_%_}
-use Rattle.windows.proofs.Laws.{node-wrote}
-use Rattle.windows.specs.declared.window.Eight.{Eight}
-use Rattle.windows.specs.declared.window.Sixteen.{Sixteen}
-use Rattle.windows.specs.Op.{wrapOf, readB, entry, eight, sixteen, listed, flipped, masked, stored}
 use mathlib.Core.Path.{ap, _∙_}
 use mathlib.Core.List.{List}
-use Prim.Native.Nat.{ℕ, _-_}
+use Prim.Native.Nat.{_%_, ℕ, _-_}
 use native.Mathlib.Omega.{arith}
+use denote.Ref.{now}
 use borrow.Author.Needs.{needs}
+use Rattle.windows.specs.declared.window.Eight.{Eight}
+use Rattle.windows.specs.Op.{wrapOf, readB, entry, eight, sixteen, flipped, masked}
+use Rattle.windows.proofs.Operator.{node-wrote}
 use Rattle.windows.proofs.kernel.node.Statement.{statement}
 use Rattle.windows.proofs.kernel.node.Tie as tie
 
@@ -37,11 +35,15 @@ returns c =
     let a = c .before .before .before .before .before .before .before .read .ensures in
     let r =
     c .before .before .before .lift .ensures
-    ∙ ap (λ (y : Eight). masked (s .args .n) (sixteen (wrapOf (entry (flipped (s .args .e % 2) y)) (entry (c .before .before .before .before .before .read2 .result)) 0))) a
-    ∙ ap (λ (y : Eight). masked (s .args .n) (sixteen (wrapOf (entry (flipped (s .args .e % 2) (eight A))) (entry y) 0))) b
+    ∙ ap (λ (y : Eight). masked (s .args .left)
+    (sixteen (wrapOf (entry (flipped (s .args .e % 2) y))
+    (entry (c .before .before .before .before .before .read2 .result)) 0))) a
+    ∙ ap (λ (y : Eight). masked (s .args .left)
+    (sixteen (wrapOf (entry (flipped (s .args .e % 2) (eight A))) (entry y) 0))) b
     in
-    rw (c .before .before .store .ensures ∙ ap (λ (y : Sixteen). stored T (s .args .po) 0 (listed y)) r)
-    (node-wrote (s .args .even) (s .args .n) (s .args .e % 2) (s .args .oa % 2) (s .args .ob % 2) (s .args .pa) (s .args .pb) (s .args .po) T (s .pre .3) (omega arith) (s .pre .2))
+    node-wrote (s .args .even) (s .args .left) (s .args .e % 2) (s .args .oa % 2) (s .args .ob % 2) (s .args .pa)
+    (s .args .pb) (s .args .to) T (c .before .before .store .last .0) (s .pre .3) (omega arith)
+    (c .before .before .before .lift .result) r (c .before .before .store .ensures)
 
 pub node-spec : {M : Type 1} → statement M
 node-spec =

@@ -1,14 +1,13 @@
-use mathlib.Core.Path.{ap₂}
-use Rattle.windows.specs.Op.{wrapOf, entry, sixteen, flipped, tabAt, stored, listed}
-use Rattle.windows.specs.Start.{freeLast, woven, first32}
-use Rattle.windows.specs.declared.window.Eight.{Eight}
-use Rattle.windows.specs.declared.window.Sixteen.{Sixteen}
-use Rattle.windows.proofs.Laws.{stored-wrote, first-is}
-use mathlib.Core.Path.{ap, _∙_}
+use mathlib.Core.Path.{ap₂, _∙_}
 use mathlib.Core.List.{List}
 use Prim.Native.Nat.{ℕ, _-_}
 use denote.Ref.{now}
 use borrow.Author.Needs.{needs}
+use Rattle.windows.specs.declared.window.Eight.{Eight}
+use Rattle.windows.specs.declared.window.Sixteen.{Sixteen}
+use Rattle.windows.specs.Op.{wrapOf, entry, sixteen, flipped, tabAt}
+use Rattle.windows.specs.Start.{freeLast, woven, first32}
+use Rattle.windows.proofs.Operator.{sixteen-wrote, first-is}
 use Rattle.windows.proofs.start.first_node.Statement.{statement}
 use Rattle.windows.proofs.start.first_node.Tie as tie
 
@@ -31,10 +30,15 @@ returns : tie.Need-returns
 returns c =
     let s = c .before .before .before .before .before .before .before .before .before .before in
     let T : List ℕ = now (s .args .t) in
-    let f : Eight → Eight → Sixteen = λ a b. woven (freeLast (sixteen (wrapOf (entry a) (entry b) 0))) (freeLast (sixteen (wrapOf (entry (flipped 1 a)) (entry b) 0))) in
-    let r = c .before .before .before .first-window .ensures ∙ ap₂ f (c .before .before .before .before .before .before .before .read-odd .ensures) (c .before .before .before .before .before .read-odd2 .ensures) ∙ first-is T (s .args .pa) (s .args .pb) in
-    rw (c .before .before .store .ensures ∙ ap (λ (y : Sixteen). stored T (s .args .po) 0 (listed y)) r)
-    (stored-wrote (first32 (tabAt T (s .args .pa) 0) (tabAt T (s .args .pb) 0)) (s .args .po) T (s .pre .2))
+    let f : Eight → Eight
+    → Sixteen = λ a b. woven (freeLast (sixteen (wrapOf (entry a) (entry b) 0)))
+    (freeLast (sixteen (wrapOf (entry (flipped 1 a)) (entry b) 0))) in
+    let r = c .before .before .before .first-window .ensures
+    ∙ ap₂ f (c .before .before .before .before .before .before .before .read-odd .ensures)
+    (c .before .before .before .before .before .read-odd2 .ensures) ∙ first-is T (s .args .pa) (s .args .pb) in
+    sixteen-wrote (first32 (tabAt T (s .args .pa) 0) (tabAt T (s .args .pb) 0)) (s .args .to) T
+    (c .before .before .store .last .0) (c .before .before .before .first-window .result) r
+    (c .before .before .store .ensures)
 
 pub first-node-spec : {M : Type 1} → statement M
 first-node-spec =

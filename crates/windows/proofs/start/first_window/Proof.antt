@@ -1,10 +1,9 @@
-use mathlib.Core.Path.{ap₂}
-use Rattle.windows.specs.Op.{wrapOf, entry, sixteen}
-use Rattle.windows.specs.Start.{freeLast, woven}
-use Rattle.windows.specs.declared.window.Eight.{Eight}
-use mathlib.Core.Path.{ap, _∙_}
+use mathlib.Core.Path.{ap₂, ap, _∙_}
 use Prim.Native.Nat.{_-_}
 use borrow.Author.Needs.{needs}
+use Rattle.windows.specs.declared.window.Eight.{Eight}
+use Rattle.windows.specs.Op.{wrapOf, entry, sixteen}
+use Rattle.windows.specs.Start.{freeLast, woven}
 use Rattle.windows.proofs.start.first_window.Statement.{statement}
 use Rattle.windows.proofs.start.first_window.Tie as tie
 
@@ -29,8 +28,12 @@ weave-requires c κs = search needs
 returns : tie.Need-returns
 returns c =
     let s = c .before .before .before .before .before .before in
-    let z = c .before .before .free-last .ensures ∙ ap freeLast (c .before .before .before .before .before .combine .ensures) in
-    let o = c .before .free-last2 .ensures ∙ ap freeLast (c .before .before .before .combine2 .ensures ∙ ap (λ (y : Eight). sixteen (wrapOf (entry y) (entry (s .args .b)) 0)) (c .before .before .before .before .flip .ensures)) in
+    let z = c .before .before .free-last .ensures
+    ∙ ap freeLast (c .before .before .before .before .before .combine .ensures) in
+    let o = c .before .free-last2 .ensures
+    ∙ ap freeLast (c .before .before .before .combine2 .ensures
+    ∙ ap (λ (y : Eight). sixteen (wrapOf (entry y) (entry (s .args .b)) 0))
+    (c .before .before .before .before .flip .ensures)) in
     c .weave .ensures ∙ ap₂ woven z o
 
 pub first-window-spec : {M : Type 1} → statement M
