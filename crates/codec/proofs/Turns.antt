@@ -2,11 +2,17 @@
 -- Assumes nothing.
 use mathlib.Core.Path.{_≡_, sym, ap, _∙_}
 use mathlib.Core.List.{List, _++_}
-use Prim.Native.Nat.{ℕ, _+_, _<_, _≤_}
+use Prim.Native.Nat.{ℕ, _+_, _^_, _<_, _≤_}
 use native.Mathlib.Omega.{arith}
 use lib.ListN.{length, take, drop, set, getD, length-set, drop-of-length-le}
-use Rattle.spec.specs.Code.{clear, spread, gathered}
+use Rattle.spec.specs.Code.{code, frozen, clear, spread, gathered}
 use Rattle.laws.specs.FrozenMap.{clear-turn, frozen-turn, spread-clear, spread-frozen, spread-end, gathered-clear, gathered-frozen, gathered-end}
+use Rattle.laws.specs.MapBits.{flagsOf}
+
+-- the flags that a loop over n positions reads
+pub flags-are : (m n : ℕ) (map : List ℕ) → n ≡ 2 ^ m → flagsOf n map ≡ frozen (code m map)
+unfolding frozen
+flags-are m n map e = ap (λ (k : ℕ). flagsOf k map) e
 
 -- the input is written up to position i, with the first j bits of the payload
 pub record Spreading (n : ℕ) (fs p out : List ℕ) (j i : ℕ) : Type 0 where

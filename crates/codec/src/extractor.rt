@@ -30,7 +30,8 @@ fn word_refusal(m: u32, map: &[u8], word: &[u8]) -> u32
     bit_refusal(n, word)
 }
 
-fn copy(from: &[u8], to: &mut [u8])
+// All of `from`, into a slice that is as long.
+pub fn copy(from: &[u8], to: &mut [u8])
     requires { ⌜ length (now to) ≡ length (now from) ⌝ }
     ensures { λ _. ⌜ now (to .exit) ≡ now (from .entry) ⌝ }
 {

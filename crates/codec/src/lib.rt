@@ -9,5 +9,6 @@ pub use code::code_refusal;
 pub use code::payload_size;
 pub use code::size;
 pub use encoder::encode;
+pub use extractor::copy;
 pub use extractor::extract;
 pub use flags::flag;

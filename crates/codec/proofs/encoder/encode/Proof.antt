@@ -14,7 +14,7 @@ use Rattle.spec.specs.Refusals.{roomFault}
 use Rattle.spec.specs.Outcome.{padded, written, encodeRefusal}
 use Rattle.laws.specs.FirstFault.{none, here, later, is-first, of-first, first-before, first-after}
 use Rattle.codec.specs.Calls.{Given, givenFaults, given-numbers, given-of, encode-refused, encode-served}
-use Rattle.codec.proofs.Outputs.{filled-behind}
+use Rattle.fill.specs.Fill.{filled-behind}
 use Rattle.codec.proofs.encoder.encode.Statement.{statement}
 use Rattle.codec.proofs.encoder.encode.Tie as tie
 
@@ -94,7 +94,7 @@ returns-3 c =
     let out = s .args .word .now in
     ap (written 0)
     (c .before .before .fill-bytes .ensures
-    ∙ filled-behind (w .write-word .last .1 .1 .1 .0) out n (w .write-word .kept .1 .1 .1 .0 ∙ length-take-le n out (l .if2 .left)) (l .if2 .left)
+    ∙ filled-behind 0 (w .write-word .last .1 .1 .1 .0) out n (w .write-word .kept .1 .1 .1 .0 ∙ length-take-le n out (l .if2 .left)) (l .if2 .left)
     ∙ ap (padded 0 (length out)) (w .write-word .ensures))
     ∙ encode-served (given s) (s .args .payload .now) out
     (passed e 0 (is-first (rest s) 0 (later (le-ltb (length out) (2 ^ s .args .m) (omega (arith, l .if2 .left))) none)))

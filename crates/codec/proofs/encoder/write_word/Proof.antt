@@ -9,7 +9,7 @@ use Rattle.spec.specs.Transform.{transform}
 use Rattle.spec.specs.Code.{Code, code, frozen, clear, spread, encoded}
 use Rattle.laws.specs.MapBits.{flagsOf, enough-bits}
 use Rattle.laws.specs.FrozenMap.{bits-spread}
-use Rattle.codec.proofs.Outputs.{flags-are}
+use Rattle.codec.proofs.Turns.{flags-are}
 use Rattle.codec.proofs.encoder.write_word.Statement.{statement}
 use Rattle.codec.proofs.encoder.write_word.Tie as tie
 

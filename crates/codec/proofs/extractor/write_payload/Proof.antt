@@ -15,7 +15,8 @@ use Rattle.spec.specs.Outcome.{padded, written}
 use Rattle.laws.specs.FirstFault.{none, here, later, is-first}
 use Rattle.laws.specs.MapBits.{flagsOf, enough-bits}
 use Rattle.codec.specs.Calls.{inputFaults, payload-refused, payload-served}
-use Rattle.codec.proofs.Outputs.{filled-behind, flags-are}
+use Rattle.fill.specs.Fill.{filled-behind}
+use Rattle.codec.proofs.Turns.{flags-are}
 use Rattle.codec.proofs.extractor.write_payload.Statement.{statement}
 use Rattle.codec.proofs.extractor.write_payload.Tie as tie
 
@@ -100,7 +101,7 @@ returns-3 c =
     let out = s .args .payload .now in
     ap (written 0)
     (c .before .before .fill-bytes .ensures
-    ∙ filled-behind (w .gather-payload .last .1 .1 .0) out k (w .gather-payload .kept .1 .1 .0 ∙ part l) (l .if2 .left)
+    ∙ filled-behind 0 (w .gather-payload .last .1 .1 .0) out k (w .gather-payload .kept .1 .1 .0 ∙ part l) (l .if2 .left)
     ∙ ap (padded 0 (length out)) (w .gather-payload .ensures ∙ ap (λ (fs : List ℕ). gathered fs (s .args .input .now)) (flags s)))
     ∙ payload-served (given s) (s .args .input .now) out
     (is-first (table s) 0 (later (intact e) (later (le-ltb (length out) (payloadSize (given s)) (omega (arith, l .if2 .left))) none)))

@@ -1,0 +1,46 @@
+// The reader for a host that has no enum: the answer as five numbers.
+use crate::Job;
+use crate::read_job;
+ghost use mathlib.Core.Path.{_≡_};
+ghost use Rattle.spec.specs.Outcome.{readOutcome};
+ghost use Rattle.job.specs.Answer.{jobOf, fieldsOf, hostReading, forHost};
+
+// 0 and the fields of a record that is read; else the refusal number, and 0 in each field.
+#[repr(C)]
+pub struct JobFields {
+    pub refusal: u32,
+    pub m: u32,
+    pub list_size: u32,
+    pub stop: u32,
+    pub frame: u32,
+}
+
+fn fields_for_host(job: Job) -> JobFields
+    ensures { λ r. ⌜ r ≡ fieldsOf (jobOf job) ⌝ }
+{
+    match job {
+        Job::Fields(m, l, p, frame) => JobFields {
+            refusal: 0,
+            m: m,
+            list_size: l,
+            stop: p,
+            frame: frame,
+        },
+        Job::Refused(k) => JobFields {
+            refusal: k,
+            m: 0,
+            list_size: 0,
+            stop: 0,
+            frame: 0,
+        },
+    }
+}
+
+// read_job, answered by JobFields.
+pub fn read_job_fields(bytes: &[u8], map: &mut [u8], soft: &mut [i16]) -> JobFields
+    ensures { λ r. ⌜ hostReading r (now (map .exit)) (now (soft .exit))
+        ≡ forHost (readOutcome (now (bytes .entry)) (now (map .entry)) (now (soft .entry))) ⌝ }
+{
+    let job = read_job(bytes, map, soft);
+    fields_for_host(job)
+}

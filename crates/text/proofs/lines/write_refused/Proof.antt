@@ -1,0 +1,31 @@
+-- `text::lines::write_refused` meets its contract: the word and the number, and a line feed. Assumes nothing.
+use native.Mathlib.Omega.{arith}
+use borrow.Author.Needs.{needs}
+use Rattle.text.specs.Output.{refusedText}
+use Rattle.text.specs.Put.{then, whole}
+use Rattle.text.proofs.lines.write_refused.Statement.{statement}
+use Rattle.text.proofs.lines.write_refused.Tie as tie
+
+slice-aggregate-put-named : tie.Need-slice-aggregate-put-named
+slice-aggregate-put-named c = search needs
+
+put-named-requires : tie.Need-put-named-requires
+put-named-requires c κs = search needs
+
+put-byte-requires : tie.Need-put-byte-requires
+put-byte-requires c κs = search needs
+
+same-length : tie.Need-same-length
+same-length c = search needs
+
+returns : tie.Need-returns
+unfolding refusedText
+returns c =
+    let feed = c .before .before in
+    let name = feed .before .before .before .before in
+    whole (then (name .put-named .ensures .0) (feed .put-byte .ensures .0)) (omega (arith, name .put-named .ensures .1, feed .put-byte .ensures .1))
+
+pub write-refused-spec : {M : Type 1} → statement M
+write-refused-spec =
+    tie.close
+    (tie.spec slice-aggregate-put-named put-named-requires put-byte-requires same-length returns)

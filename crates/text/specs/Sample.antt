@@ -1,0 +1,35 @@
+-- The sample of 01, "The program's output", by the definitions: the rows of its record, as text. Beside it a refusal and a row with a negative score.
+use mathlib.Core.Path.{_≡_, refl}
+use mathlib.Core.List.{[], _∷_}
+use lib.IntN.{pos, negsuc}
+use Rattle.spec.specs.Bits.{bitsOf, unpacked}
+use Rattle.spec.specs.Transform.{transform}
+use Rattle.spec.specs.Code.{Code, code, frozen, codeTransform}
+use Rattle.spec.specs.Score.{largest, score}
+use Rattle.spec.specs.Decoder.{children, live, rows}
+use Rattle.text.specs.Decimal.{digits, decimal}
+use Rattle.text.specs.Output.{bitText, refusedText, frameLine, rowLine}
+use Rattle.text.specs.RowsText.{linesOf, textOf}
+
+-- positions 0 and 1 frozen, soft values 5, -3, 2, 7, list size 2, stop position 4, frame 0:
+-- `frame 0 rows 2`, `0 13 0010 0110`, `1 11 0000 0000`
+unfoldable pub frozen01 : Code
+frozen01 = code 2 (3 ∷ [])
+
+pub sample-text : textOf 0 (rows (codeTransform frozen01) frozen01 (pos 5 ∷ negsuc 2 ∷ pos 2 ∷ pos 7 ∷ []) 2 4) ≡
+    102 ∷ 114 ∷ 97 ∷ 109 ∷ 101 ∷ 32 ∷ 48 ∷ 32 ∷ 114 ∷ 111 ∷ 119 ∷ 115 ∷ 32 ∷ 50 ∷ 10
+    ∷ 48 ∷ 32 ∷ 49 ∷ 51 ∷ 32 ∷ 48 ∷ 48 ∷ 49 ∷ 48 ∷ 32 ∷ 48 ∷ 49 ∷ 49 ∷ 48 ∷ 10
+    ∷ 49 ∷ 32 ∷ 49 ∷ 49 ∷ 32 ∷ 48 ∷ 48 ∷ 48 ∷ 48 ∷ 32 ∷ 48 ∷ 48 ∷ 48 ∷ 48 ∷ 10
+    ∷ []
+unfolding frozen01 textOf linesOf frameLine rowLine bitText decimal digits rows live children score largest transform frozen unpacked bitsOf
+sample-text = refl
+
+-- `refused 13`
+pub refusal-text : refusedText 13 ≡ 114 ∷ 101 ∷ 102 ∷ 117 ∷ 115 ∷ 101 ∷ 100 ∷ 32 ∷ 49 ∷ 51 ∷ 10 ∷ []
+unfolding refusedText decimal digits
+refusal-text = refl
+
+-- `3 -2047 1 0`
+pub negative-text : rowLine 3 (negsuc 2046) (1 ∷ []) (0 ∷ []) ≡ 51 ∷ 32 ∷ 45 ∷ 50 ∷ 48 ∷ 52 ∷ 55 ∷ 32 ∷ 49 ∷ 32 ∷ 48 ∷ 10 ∷ []
+unfolding rowLine bitText decimal digits
+negative-text = refl
