@@ -6,14 +6,13 @@ use Prim.Native.Nat.{ℕ, zero, suc, _≤_}
 use native.Mathlib.Omega.{arith}
 use lib.ListN.{length}
 use lib.IntN.{ℤ, pos, negℤ}
-use Rattle.spec.specs.Code.{Code, size, mapBytes, codeTransform}
+use Rattle.spec.specs.Code.{Code, codeTransform}
 use Rattle.spec.specs.Decoder.{rows}
 use Rattle.spec.specs.Faults.{Fault, fault, first, settled}
 use Rattle.spec.specs.Refusals.{Room, decodeFaults}
-use Rattle.spec.specs.RowCount.{row-count}
 use Rattle.spec.specs.Outcome.{Answer, rowCount, refusedBy, Lent, roomOf, Decoding, decoding, decodedRows, decodeRefusal, decodeServed, decodeOutcome}
-use Rattle.laws.specs.FirstFault.{First, later, of-first, inside-of, same-of}
-use borrow.Author.Tests.{ltb-false}
+use Rattle.laws.specs.FirstFault.{First, of-first}
+use Rattle.decoder.specs.RowsAtMost.{list-in-range, rows-at-most}
 
 -- the rows, or minus the refusal number
 abbrev pub numberOf : Answer → ℤ
@@ -56,9 +55,7 @@ refusal-small c l p soft r =
 
 -- a served call has at most l rows, and l is at most 32
 rows-small : (c : Code) (l p : ℕ) (soft : List ℤ) (r : Room) → First (decodeFaults c l p soft r) 0 → length (rows (codeTransform c) c soft l p) ≤ 32
-rows-small c l p soft r (later a (later b (later d (later e₄ (later e₅ f))))) =
-    let q = inside-of 1 32 l e₄ in
-    omega (arith, row-count (codeTransform c) c soft l p (q .0) (same-of (length (c .map)) (mapBytes (size c)) b) (ltb-false (size c) p e₅))
+rows-small c l p soft r f = omega (arith, rows-at-most c l p soft r f, list-in-range c l p soft r f .1)
 
 pub small : (c : Code) (l p : ℕ) (soft : List ℤ) (x : Lent) → Small (decodeOutcome c l p soft x .answer)
 unfolding decodeOutcome decodeServed decodeRefusal

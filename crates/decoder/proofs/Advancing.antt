@@ -106,5 +106,5 @@ module _ (c : Code) (y : List ℤ) (deep l h i at : ℕ) (s r : Live) (t b slots
     base = λ j x hj hx. base (16 * (h + j) + x) (omega arith) ∙ run .base j x hj hx;
     traced = rw history (rw (set .history)
         (traced-more (cost (c .m) y) l i at (prefixes c y l i) (prefixes c y l (suc i)) (r .code) b (set .b₁) (3 * h)
-        (λ k hk. bred k (omega (arith, count-is))) (omega (arith, count-is)) place (rw count-is at (set .noted)) (run .traced) (λ k hk. prefix-long c y l (suc i) k hk)));
+        (λ k hk. bred k (omega (arith, count-is))) (omega (arith, count-is)) place (rw count-is at (set .noted)) (run .traced)));
   }

@@ -55,6 +55,7 @@ module _ (m l p n h : ℕ) (map : List ℕ) (soft : List ℤ) (r : Room) (f : Se
       written : BlockWritten (code m map) soft l p (s .count) (magnitude soft) (drop (3 * h) b) (cw .costs) inputs words scores r
       unfolding run
       written = record {
+        list = f .list;
         stop = omega (arith, f .stop, f .size-is);
         soft = f .long ∙ f .size-is;
         few = sym (run .counted);

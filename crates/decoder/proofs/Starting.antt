@@ -60,5 +60,5 @@ module _ (c : Code) (y : List ℤ) (deep l h n : ℕ) (s : Live) (t b slots : Li
         subst (λ (w : List ℕ). Right k d y w (cellIn l h t (take (3 * h) b) (2 ^ d) (slotW slots d r) (slotO slots d r))) (sym (empty r h1))
         (started-ready deep l h y t (take (3 * h) b) (z .some) (omega (arith, z .half)) a (λ j hj. getD-take (3 * h) b j 0 (omega arith) ∙ zeros j) k d e (slotW slots d) (slotO slots d) (none (32 * d + 0)) r h1);
     base = a .base;
-    traced = record { long = λ r hr. ap length (empty r hr); traces = λ r hr. subst (Trace l (drop (3 * h) b) 0 r) (sym (empty r hr)) (begun (omega (arith, z .some))) };
+    traced = λ r hr. subst (Trace l (drop (3 * h) b) 0 r) (sym (empty r hr)) (begun (omega (arith, z .some)));
   }

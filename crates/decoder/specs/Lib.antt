@@ -4,3 +4,4 @@ pub mod Running
 pub mod Serving
 pub mod Answers
 pub mod Isolation
+pub mod RowsAtMost

@@ -1,4 +1,3 @@
-mod BitParts
 mod ReadBack
 mod Filling
 mod InputRows

@@ -1,9 +1,9 @@
 -- The rows of the paper decoder are what the three calls leave in the lent outputs.
 use mathlib.Core.Path.{_≡_, refl, sym, ap, ap₂, _∙_}
-use mathlib.Core.List.{List, [], _∷_, _++_, map, map-map}
-use Prim.Native.Nat.{ℕ, _+_, _-_, _*_, _<_, _≤_}
+use mathlib.Core.List.{List, [], _∷_, map, map-map}
+use Prim.Native.Nat.{ℕ, _-_, _*_, _<_, _≤_}
 use native.Mathlib.Omega.{arith}
-use lib.ListN.{length, take, getD, replicate, length-append, length-map, length-replicate}
+use lib.ListN.{length, take, getD, replicate, length-map}
 use lib.Seq.{length-take-le, getD-take, ext-getD}
 use lib.Pow.{pow-mono}
 use lib.IntN.{ℤ, pos}
@@ -16,8 +16,8 @@ use Rattle.laws.specs.Cost.{cost, magnitude}
 use Rattle.laws.specs.Bounds.{cost-le}
 use Rattle.laws.specs.ScoreCost.{score-is}
 use Rattle.laws.specs.ListCost.{All, none, more, Long, live-long, all-at}
-use Rattle.rows.specs.Blocks.{Wide, filledRow, wide-filled, getD-map}
-use Rattle.rows.specs.Trace.{Traced, InputsWritten}
+use Rattle.rows.specs.Blocks.{Wide, filledRow, rowsOf, rows-back, wide-filled, getD-map}
+use Rattle.rows.specs.Trace.{Traced, InputsWritten, prefixesBack, prefixes-back}
 use Rattle.rows.specs.Words.{WordsWritten}
 use Rattle.rows.specs.Scores.{scoreFrom, ScoresFit, ScoresWritten}
 
@@ -26,13 +26,6 @@ module _ {A : Type 0} {P : A → Type 0} where
   map-same : {B : Type 0} (f g : A → B) → ((x : A) → P x → f x ≡ g x) → {xs : List A} → All P xs → map f xs ≡ map g xs
   map-same f g e none = refl
   map-same {B} f g e (more {x} p a) = ap₂ (λ (v : B) (vs : List B). v ∷ vs) (e x p) (map-same f g e a)
-
--- a padded list is padded to its own length
-padded-own : {A : Type 0} (z : A) (N : ℕ) (xs s : List A) → s ≡ padded z N xs → s ≡ padded z (length s) xs
-padded-own z N xs s e =
-    let long : length s ≡ length xs + (N - length xs) = ap length e ∙ length-append xs (replicate (N - length xs) z) ∙ ap (λ (k : ℕ). length xs + k) (length-replicate (N - length xs) z) in
-    let behind : N - length xs ≡ length s - length xs = omega arith in
-    e ∙ ap (λ (k : ℕ). xs ++ replicate k z) behind
 
 -- ---- a block
 -- the live prefixes after p positions
@@ -57,6 +50,7 @@ scores-fit c y l p count total N costs most ey ec few room there et small are = 
 
 -- A block decoded up to p: its live prefixes lie in the history g and have these costs, and the three calls have written its outputs.
 pub record BlockWritten (c : Code) (y : List ℤ) (l p count total : ℕ) (g costs inputs words : List ℕ) (scores : List ℤ) (room : Room) : Type 0 where
+  pub list : l ≤ 32
   pub stop : p ≤ size c
   pub soft : length y ≡ size c
   pub few : length (prefixes c y l p) ≡ count
@@ -84,17 +78,26 @@ module _ {c : Code} {y : List ℤ} {l p count total : ℕ} {g costs inputs words
 
   held : inputs ≡ padded 0 (room .inputs) (concat filled)
   unfolding ps filled
-  held = b .inputs-left .rows ps (b .few) (b .traced)
+  held =
+      let back : prefixesBack l g p count ≡ ps = ap (prefixesBack l g p) (sym (b .few)) ∙ prefixes-back l p g ps (b .list) (b .traced) in
+      b .inputs-left ∙ ap (λ (xs : List (List ℕ)). padded 0 (room .inputs) (concat (map (filledRow (size c)) xs))) back
 
   pub inputs-are : inputs ≡ padded 0 (room .inputs) (concat (map (λ (r : Row). r .input) (rows (codeTransform c) c y l p)))
   unfolding ps T row filled rows
   inputs-are = held ∙ ap (λ (xs : List (List ℕ)). padded 0 (room .inputs) (concat xs)) (sym (map-map (λ (r : Row). r .input) row ps))
 
+  cut : rowsOf (size c) count inputs ≡ filled
+  unfolding ps filled
+  cut =
+      let long : Wide (size c) filled = wide-filled p (size c) ps (b .stop) (λ k h. all-at [] (live-long (codeTransform c) c y l p) k h) in
+      let few : count ≡ length filled = sym (length-map ps (filledRow (size c)) ∙ b .few) in
+      rw (few, held) (rows-back (size c) filled (replicate (room .inputs - length (concat filled)) 0) long)
+
   pub words-are : words ≡ padded 0 (room .words) (concat (map (λ (r : Row). r .word) (rows (codeTransform c) c y l p)))
   unfolding ps T row filled rows
   words-are =
-      let long : Wide (size c) filled = wide-filled p (size c) ps (b .stop) (λ k h. all-at [] (live-long T c y l p) k h) in
-      b .words-left filled (length-map ps (filledRow (size c)) ∙ b .few) long (padded-own 0 (room .inputs) (concat filled) inputs held)
+      b .words-left
+      ∙ ap (λ (xs : List (List ℕ)). padded 0 (room .words) (concat (map T xs))) cut
       ∙ ap (λ (xs : List (List ℕ)). padded 0 (room .words) (concat xs)) (map-map T (filledRow (size c)) ps ∙ sym (map-map (λ (r : Row). r .word) row ps))
 
   taken : take count costs ≡ map (cost (c .m) y) ps

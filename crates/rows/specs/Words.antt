@@ -6,7 +6,7 @@ use lib.ListN.{length}
 use Rattle.spec.specs.Bits.{Bits}
 use Rattle.spec.specs.Transform.{transform}
 use Rattle.spec.specs.Outcome.{padded, concat}
-use Rattle.rows.specs.Blocks.{Wide}
+use Rattle.rows.specs.Blocks.{rowsOf}
 
 -- rows of n = 2 ^ m bits for count paths of a list of l, with N places for their words
 pub record WordsFit (m n l count N : ℕ) (inputs : List ℕ) : Type 0 where
@@ -19,8 +19,6 @@ pub record WordsFit (m n l count N : ℕ) (inputs : List ℕ) : Type 0 where
   pub there : n * l ≤ length inputs
   pub bits : Bits inputs
 
--- N places after the words are written: where the inputs hold the rows us and then 0, the transforms of these, then 0
+-- N places after the words are written: the transforms of the first count rows of the inputs, then 0
 abbrev pub WordsWritten : ℕ → ℕ → ℕ → ℕ → List ℕ → List ℕ → Type 0
-WordsWritten m n count N inputs words =
-    (us : List (List ℕ)) → length us ≡ count → Wide n us → inputs ≡ padded 0 (length inputs) (concat us)
-    → words ≡ padded 0 N (concat (map (transform m) us))
+WordsWritten m n count N inputs words = words ≡ padded 0 N (concat (map (transform m) (rowsOf n count inputs)))

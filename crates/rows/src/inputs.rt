@@ -1,8 +1,9 @@
 // The input rows: each path's prefix, read back from the history, and 0 behind it.
 ghost use mathlib.Core.Path.{_≡_};
+ghost use mathlib.Core.List.{_++_};
 ghost use Prim.Native.Nat.{_+_, _*_, _≤_, _<_};
-ghost use lib.ListN.{length};
-ghost use Rattle.rows.specs.Trace.{Fits, RowTraced, InputsWritten};
+ghost use lib.ListN.{length, drop};
+ghost use Rattle.rows.specs.Trace.{Fits, tracedBack, InputsWritten};
 use fill::fill_bytes;
 
 fn wide(x: u8) -> usize
@@ -13,8 +14,8 @@ fn wide(x: u8) -> usize
 
 // The prefix of the path at rank r after p positions, at the front of a row. past is l * p.
 fn trace_row(row: &mut [u8], history: &[u8], l: usize, p: usize, past: usize, r: usize)
-    requires { ⌜ (p ≤ length (now row)) × (past ≡ l * p) × (past + 32 ≤ length (now history)) × (r < 32) × (l ≤ 32) ⌝ }
-    ensures { λ _. ⌜ RowTraced l p r (now (history .entry)) (now (row .entry)) (now (row .exit)) ⌝ }
+    requires { ⌜ (p ≤ length (now row)) × (past ≡ l * p) × (past + 32 ≤ length (now history)) × (r < 32) ⌝ }
+    ensures { λ _. ⌜ now (row .exit) ≡ tracedBack l (now (history .entry)) p r ++ drop p (now (row .entry)) ⌝ }
 {
     let mut at = p;
     let mut base = past;

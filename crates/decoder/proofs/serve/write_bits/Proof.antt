@@ -6,6 +6,7 @@ use borrow.Author.Needs.{needs}
 use lib.ListN.{length-take, length-drop}
 use Rattle.decoder.proofs.Serving.{n-small}
 use lib.Seq.{take-all}
+use Rattle.rows.specs.Trace.{inputs-bits}
 use Rattle.decoder.proofs.serve.write_bits.Statement.{statement}
 use Rattle.decoder.proofs.serve.write_bits.Tie as tie
 
@@ -40,7 +41,22 @@ write-inputs-requires c κs =
     }
 
 write-words-requires : tie.Need-write-words-requires
-write-words-requires c κs = search needs
+write-words-requires c κs =
+    let at = c .before .before .before .before in
+    let s = at .before .before .before .before .before .before .before in
+    let a = s .args in
+    let g = a .b .now in
+    let k = 3 * a .h in
+    record {
+      least = s .pre .least;
+      most = s .pre .most;
+      size = s .pre .size-is;
+      list = s .pre .list;
+      few = s .pre .few;
+      room = s .pre .word-room;
+      there = omega (arith, at .write-inputs .kept .0, s .pre .input-room);
+      bits = inputs-bits (a .l) (a .p) (a .n) (a .count) (length (a .inputs .now)) (take (length g - k) (drop k g)) _ (at .write-inputs .ensures);
+    }
 
 same-length : tie.Need-same-length
 same-length c = search needs

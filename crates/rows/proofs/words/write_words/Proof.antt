@@ -5,8 +5,8 @@ use native.Mathlib.Omega.{arith}
 use borrow.Author.Needs.{needs}
 use lib.ListN.{length}
 use Rattle.rows.specs.Words.{WordsFit}
-use Rattle.rows.proofs.Filling.{next-inside}
-use Rattle.rows.proofs.WordRows.{WordsSoFar, words-none, words-room, row-long, input-inside, input-long, input-word, words-more, words-end}
+use Rattle.rows.proofs.Filling.{filling-none, next-inside}
+use Rattle.rows.proofs.WordRows.{WordsSoFar, words-room, row-long, input-inside, input-long, input-word, words-more, words-end}
 use Rattle.rows.proofs.words.write_words.Statement.{statement}
 use Rattle.rows.proofs.words.write_words.Tie as tie
 use Rattle.rows.proofs.words.write_words.Reads as reads
@@ -31,10 +31,10 @@ fits : (c : Turn) → (let a = start c .args in WordsFit (a .m) (a .n) (a .l) (a
 fits c = rw (c .before .before .before .before .fill-bytes .kept .0) (start c .pre)
 
 inside : (c : Turn) → c .before .loop .at + start c .args .n ≤ length (c .before .before .before .before .fill-bytes .last .0)
-inside c = next-inside (c .before .loop .inv .filling) (words-room (fits c)) (c .loop-test .taken)
+inside c = next-inside _ _ _ _ _ (c .before .loop .inv .at-is) (words-room (fits c)) (c .loop-test .taken)
 
 input : (c : Turn) → c .before .loop .at + start c .args .n ≤ length (start c .args .inputs .now)
-input c = input-inside (fits c) (c .before .loop .inv .filling) (c .loop-test .taken)
+input c = input-inside (fits c) (c .before .loop .inv) (c .loop-test .taken)
 
 width : (c : Turn) → c .before .loop .at + start c .args .n - c .before .loop .at ≡ start c .args .n
 width c = omega arith
@@ -44,7 +44,7 @@ fill-bytes-requires : tie.Need-fill-bytes-requires Inv-loop μ-loop
 fill-bytes-requires c κs = search needs
 
 loop-holds : tie.Need-loop-holds Inv-loop μ-loop
-loop-holds c = words-none _ _ _ _ _ _ (c .before .before .fill-bytes .ensures) (c .before .before .fill-bytes .kept .0)
+loop-holds c = filling-none _ _ _ _ (c .before .before .fill-bytes .ensures) (c .before .before .fill-bytes .kept .0)
 
 add-put-word : tie.Need-add-put-word Inv-loop μ-loop
 add-put-word c = omega (arith, inside c)
@@ -56,7 +56,7 @@ part-put-word-start : tie.Need-part-put-word-start Inv-loop μ-loop
 part-put-word-start c = omega arith
 
 part-put-word-end : tie.Need-part-put-word-end Inv-loop μ-loop
-part-put-word-end c = omega (arith, inside c, c .before .loop .inv .filling .same)
+part-put-word-end c = omega (arith, inside c, c .before .loop .inv .same)
 
 add-put-word-2 : tie.Need-add-put-word-2 Inv-loop μ-loop
 add-put-word-2 c = omega (arith, inside (c .before))
@@ -73,7 +73,7 @@ part-put-word-end-2 c = omega (arith, input (c .before))
 put-word-requires : tie.Need-put-word-requires Inv-loop μ-loop
 put-word-requires c κs =
     let i = c .before .before in
-    let so-far = i .before .loop .inv .filling in (
+    let so-far = i .before .loop .inv in (
       row-long (fits i) so-far (i .loop-test .taken) _ (width i) ∙ sym (input-long (fits i) so-far (i .loop-test .taken) _ (width i)),
       input-word (fits i) so-far (i .loop-test .taken) _ (width i),
     )
@@ -94,10 +94,12 @@ loop-again c =
     words-more (fits i) (i .before .loop .inv) (i .loop-test .taken) _ (width i) (put .ensures) (put .kept .0)
 
 same-length : tie.Need-same-length Inv-loop μ-loop
-same-length c = c .before .loop .inv .filling .same ∙ c .before .before .before .before .fill-bytes .kept .0
+same-length c = c .before .loop .inv .same ∙ c .before .before .before .before .fill-bytes .kept .0
 
 returns : tie.Need-returns Inv-loop μ-loop
-returns c = rw (c .before .before .before .before .fill-bytes .kept .0) at (words-end (omega arith) (c .before .loop .inv))
+returns c =
+    let a = c .before .before .before .before .before .before .before .before .args in
+    rw (c .before .before .before .before .fill-bytes .kept .0) at (words-end (a .m) (a .inputs .now) (omega arith) (c .before .loop .inv))
 
 pub write-words-spec : {M : Type 1} → statement M
 write-words-spec =
