@@ -1,5 +1,6 @@
 /*
- * Caldurrex: encoder, extractor and list decoder for convolutional polar codes.
+ * Caldurrex: encoder, extractor and list decoder for convolutional polar codes, and a
+ * reader of job records.
  *
  * A code has n = 2^m positions, m from 2 to 10, and a frozen map of ceil(n/8)
  * bytes: bit i mod 8 of byte i div 8, counted from the low end, is 1 where
@@ -27,18 +28,20 @@ extern "C" {
 
 /* Why a call was not served. */
 enum caldurrex_refusal {
-    CALDURREX_BAD_M = 1,            /* m outside 2..10 */
-    CALDURREX_BAD_MAP_LENGTH = 2,   /* frozen map not ceil(n/8) bytes */
-    CALDURREX_BAD_MAP_BIT = 3,      /* map bit set past n */
-    CALDURREX_BAD_LIST_SIZE = 4,    /* list size outside 1..32 */
-    CALDURREX_BAD_STOP = 5,         /* stop position above n */
-    CALDURREX_BAD_INPUT_LENGTH = 6, /* payload not k long; word or soft values not n long */
-    CALDURREX_BAD_SOFT_VALUE = 7,   /* soft value outside -2047..2047 */
-    CALDURREX_SHORT_NUMBERS = 8,    /* number tables too short */
-    CALDURREX_SHORT_BYTES = 9,      /* byte tables too short */
-    CALDURREX_SHORT_OUTPUT = 10,    /* an output too short */
-    CALDURREX_NOT_A_BIT = 11,       /* payload or word byte above 1 */
-    CALDURREX_NOT_A_CODE_WORD = 12  /* a frozen input bit of the word is 1 */
+    CALDURREX_BAD_M = 1,              /* m outside 2..10 */
+    CALDURREX_BAD_MAP_LENGTH = 2,     /* frozen map not ceil(n/8) bytes */
+    CALDURREX_BAD_MAP_BIT = 3,        /* map bit set past n */
+    CALDURREX_BAD_LIST_SIZE = 4,      /* list size outside 1..32 */
+    CALDURREX_BAD_STOP = 5,           /* stop position above n */
+    CALDURREX_BAD_INPUT_LENGTH = 6,   /* payload not k long; word or soft values not n long */
+    CALDURREX_BAD_SOFT_VALUE = 7,     /* soft value outside -2047..2047 */
+    CALDURREX_SHORT_NUMBERS = 8,      /* number tables too short */
+    CALDURREX_SHORT_BYTES = 9,        /* byte tables too short */
+    CALDURREX_SHORT_OUTPUT = 10,      /* an output too short */
+    CALDURREX_NOT_A_BIT = 11,         /* payload or word byte above 1 */
+    CALDURREX_NOT_A_CODE_WORD = 12,   /* a frozen input bit of the word is 1 */
+    CALDURREX_BAD_RECORD_LENGTH = 13, /* record not as long as its fields need */
+    CALDURREX_BAD_FIELD_MAP = 14      /* bits 3 to 7 of a record's first byte not 0 */
 };
 
 /*
@@ -148,6 +151,57 @@ int32_t caldurrex_decode(uint32_t m, const uint8_t *map, size_t map_len,
                          uint8_t *inputs, size_t inputs_len,
                          uint8_t *words, size_t words_len,
                          int32_t *scores, size_t scores_len);
+
+/* What a record says. refusal is 0 if it was read; else it is the number of the
+ * refusal, and the other four are 0. */
+struct caldurrex_job {
+    uint32_t refusal, m, list_size, stop, frame;
+};
+
+/*
+ * Reads a job record: what a decoder call needs, and a frame number for the host.
+ *
+ * A record is these bytes one behind the other and nothing else. A number of several
+ * bytes has its low byte first.
+ *
+ *   1 byte           which of the three fields below are present: bit 0 the list size,
+ *                    bit 1 the stop position, bit 2 the frame number; bits 3 to 7 are 0
+ *   1 byte           m, 2 to 10
+ *   1 byte           list size, 1 to 32; only if bit 0 is 1, else the list size is 4
+ *   2 bytes          stop position, 0 to n; only if bit 1 is 1, else it is n
+ *   4 bytes          frame number, unsigned; only if bit 2 is 1, else it is 0
+ *   ceil(n/8) bytes  the frozen map; for n = 4 its four high bits are 0
+ *   2*n bytes        n soft values from -2047 to 2047, each a signed number of 16 bits
+ *
+ * A field may be present with the value that it would have when absent.
+ *
+ *   record  the record, as long as its fields need
+ *   map     at least ceil(n/8) bytes; the first of them become the frozen map, and all
+ *           behind it up to map_len becomes 0
+ *   soft    at least n numbers of 16 bits; the first n become the soft values, and all
+ *           behind them up to soft_len becomes 0
+ *
+ * The decoder takes the map and the soft values at their exact lengths, ceil(n/8)
+ * and n. 128 bytes and 1024 numbers are enough for every record.
+ *
+ * The answer's refusal is 0, or the first of these that applies, in this order:
+ *
+ *   13  CALDURREX_BAD_RECORD_LENGTH  record_len is 0
+ *   14  CALDURREX_BAD_FIELD_MAP      one of bits 3 to 7 of the first byte is 1
+ *   13  CALDURREX_BAD_RECORD_LENGTH  record_len is 1
+ *   1   CALDURREX_BAD_M              m outside 2..10
+ *   13  CALDURREX_BAD_RECORD_LENGTH  record_len is not exactly what the fields need
+ *   3   CALDURREX_BAD_MAP_BIT        a map bit past n is set
+ *   4   CALDURREX_BAD_LIST_SIZE      list size outside 1..32
+ *   5   CALDURREX_BAD_STOP           stop position above n
+ *   7   CALDURREX_BAD_SOFT_VALUE     a soft value outside -2047..2047
+ *   10  CALDURREX_SHORT_OUTPUT       map_len is below ceil(n/8) or soft_len below n
+ *
+ * A refused call writes nowhere.
+ */
+struct caldurrex_job caldurrex_read_job(const uint8_t *record, size_t record_len,
+                                        uint8_t *map, size_t map_len,
+                                        int16_t *soft, size_t soft_len);
 
 #ifdef __cplusplus
 }

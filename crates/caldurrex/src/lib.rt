@@ -1,10 +1,12 @@
 // The calls for a host written in C. A slice is a pointer and a length in elements.
 ghost use mathlib.Core.Path.{_≡_};
 ghost use Rattle.spec.specs.Code.{code};
-ghost use Rattle.spec.specs.Outcome.{written, encodeOutcome, extractOutcome, lent, decodeOutcome};
+ghost use Rattle.spec.specs.Outcome.{written, encodeOutcome, extractOutcome, lent, decodeOutcome, readOutcome};
 ghost use Rattle.decoder.specs.Answers.{answerOf};
+ghost use Rattle.job.specs.Answer.{hostReading, forHost};
 ghost use Rattle.caldurrex.specs.Numbers.{Small, numberOf, returned, faced};
 use decoder::Decoded;
+use job::JobFields;
 
 #[no_mangle]
 pub extern "C" fn caldurrex_encode(m: u32, map: &[u8], payload: &[u8], word: &mut [u8]) -> u32
@@ -62,4 +64,12 @@ pub extern "C" fn caldurrex_decode(
         scores,
     );
     number_of(d)
+}
+
+#[no_mangle]
+pub extern "C" fn caldurrex_read_job(bytes: &[u8], map: &mut [u8], soft: &mut [i16]) -> JobFields
+    ensures { λ r. ⌜ hostReading r (now (map .exit)) (now (soft .exit))
+        ≡ forHost (readOutcome (now (bytes .entry)) (now (map .entry)) (now (soft .entry))) ⌝ }
+{
+    job::read_job_fields(bytes, map, soft)
 }

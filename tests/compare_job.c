@@ -1,0 +1,222 @@
+/*
+ * Compares the record reader of the library with the reference one, at every m.
+ *
+ *   compare_job [seed [rounds]]
+ *
+ * A run with the same seed and rounds makes the same calls.
+ */
+#include "draw.h"
+#include "job_calls.h"
+#include "job_check.h"
+
+#include <stdio.h>
+#include <stdlib.h>
+#include <string.h>
+
+/* ---- the examples of the rules */
+
+static const struct example {
+    const char *bytes;
+    size_t len;
+    uint32_t refusal;
+} examples[] = {
+    {"", 0, 13},
+    {"\x00", 1, 13},
+    {"\x08", 1, 14},
+    {"\x08\x01", 2, 14},
+    {"\x00\x01", 2, 1},
+    {"\x00\x02", 2, 13},
+    {"\x00\x02\x10\0\0\0\0\0\0\0\0", 11, 3},
+    {"\x01\x02\x00\x00\0\0\0\0\0\0\0\0", 12, 4},
+    {"\x02\x02\x05\x00\x00\0\0\0\0\0\0\0\0", 13, 5},
+    {"\x00\x02\x00\x00\xf8\0\0\0\0\0\0", 11, 7},
+};
+
+static void run_examples(void)
+{
+    struct job_record r = {.kind = JOB_GOOD, .fields = JOB_LIST_SIZE, .m = 2, .list_size = 2, .stop = 4,
+                           .map = {3}, .soft = {5, -3, 2, 7}, .len = 12};
+    memcpy(r.bytes, "\x01\x02\x02\x03\x05\x00\xfd\xff\x02\x00\x07\x00", 12);
+    job_check(&r, 1, 4);
+    job_check(&r, 3, 9);
+    for (size_t i = 0; i < sizeof examples / sizeof examples[0]; i++) {
+        memcpy(r.bytes, examples[i].bytes, examples[i].len);
+        r.len = examples[i].len;
+        r.refusal = examples[i].refusal;
+        job_check(&r, 1, 4);
+    }
+}
+
+/* ---- what is lent */
+
+/* The record's slices exactly long enough, longer, one too short and empty, each with
+ * each, or as many pairs of these as asked for. */
+static void try_slices(const struct job_record *r, size_t pairs)
+{
+    size_t need_map = job_map_len(r->m), need_soft = (size_t)1 << r->m;
+    for (size_t pair = 0; pair < pairs; pair++) {
+        size_t maps[5] = {need_map, need_map + 1, need_map - 1, 0, need_map + draw_below(1000)};
+        size_t softs[5] = {need_soft, need_soft + 1, need_soft - 1, 0, need_soft + draw_below(1000)};
+        job_check(r, maps[pair % 5], softs[pair / 5]);
+    }
+}
+enum { ALL_PAIRS = 25 };
+
+/* Slices that are long enough. */
+static void run_as(struct job_record *r, uint32_t refusal)
+{
+    size_t map_len = job_map_len(r->m) + draw_below(3), soft_len = ((size_t)1 << r->m) + draw_below(3);
+    r->refusal = refusal;
+    job_check(r, map_len, soft_len);
+}
+
+/* ---- both sides of every limit */
+
+static void try_first_bytes(uint32_t m)
+{
+    struct job_record r;
+    for (unsigned byte = 0; byte < 256; byte++) {
+        job_good(&r, m, byte % JOB_FIELD_SETS, 0);
+        r.bytes[0] = (uint8_t)byte;
+        run_as(&r, byte < JOB_FIELD_SETS ? 0 : 14);
+        job_good(&r, m, (unsigned)draw_below(JOB_FIELD_SETS), 0);
+        r.bytes[1] = (uint8_t)byte;
+        if (byte != m)
+            run_as(&r, byte < JOB_MIN_M || byte > JOB_MAX_M ? 1 : 13);
+    }
+}
+
+static void try_lengths(uint32_t m, unsigned fields)
+{
+    struct job_record r;
+    job_good(&r, m, fields, 0);
+    size_t right = r.len;
+    memset(r.bytes + right, 0, 64);
+    for (r.len = 0; r.len < right + 64; r.len += r.len < 32 || r.len + 16 > right ? 1 : 1 + draw_below(64))
+        if (r.len != right)
+            run_as(&r, 13);
+}
+
+static void try_stop(uint32_t m, uint32_t p)
+{
+    struct job_record r;
+    job_good(&r, m, JOB_STOP | (unsigned)draw_below(JOB_FIELD_SETS), 0);
+    r.stop = p;
+    job_pack(&r);
+    run_as(&r, p > (uint32_t)1 << m ? 5 : 0);
+}
+
+/* Every list size; stop positions below 40, round n and, with gaps, up to the last one
+ * that two bytes can say. */
+static void try_fields(uint32_t m)
+{
+    struct job_record r;
+    uint32_t n = (uint32_t)1 << m;
+    for (uint32_t l = 0; l < 256; l++) {
+        job_good(&r, m, JOB_LIST_SIZE | (unsigned)draw_below(JOB_FIELD_SETS), 0);
+        r.list_size = l;
+        job_pack(&r);
+        run_as(&r, l < 1 || l > JOB_MAX_LIST ? 4 : 0);
+    }
+    for (uint32_t p = 0; p < 40; p++)
+        try_stop(m, p);
+    for (uint32_t p = n - 4; p <= n + 4; p++)
+        try_stop(m, p);
+    for (uint32_t p = 0; p < 65536; p += 255)
+        try_stop(m, p);
+}
+
+static void try_soft_values(uint32_t m)
+{
+    static const int16_t values[10] = {-2047, 2047, -2048, 2048, -2049, 2049, -32768, 32767, -1, 256};
+    size_t n = (size_t)1 << m;
+    for (size_t i = 0; i < n; i += i < 64 || i + 8 >= n ? 1 : 61) {
+        for (size_t which = 0; which < 10; which++) {
+            struct job_record r;
+            job_good(&r, m, (unsigned)draw_below(JOB_FIELD_SETS), 0);
+            r.soft[i] = values[which];
+            job_pack(&r);
+            run_as(&r, values[which] < -2047 || values[which] > 2047 ? 7 : 0);
+        }
+    }
+}
+
+static void try_maps_of_4(void)
+{
+    struct job_record r;
+    for (unsigned bits = 0; bits < 256; bits++) {
+        job_good(&r, 2, (unsigned)draw_below(JOB_FIELD_SETS), 0);
+        r.map[0] = (uint8_t)bits;
+        job_pack(&r);
+        run_as(&r, bits < 16 ? 0 : 3);
+    }
+}
+
+static void try_limits(uint32_t m)
+{
+    try_first_bytes(m);
+    for (unsigned fields = 0; fields < JOB_FIELD_SETS; fields++)
+        try_lengths(m, fields);
+    try_fields(m);
+    try_soft_values(m);
+    if (m == 2)
+        try_maps_of_4();
+}
+
+/* ---- random records */
+
+/* Every set of fields, each with every part of it as when absent. */
+static void try_good(uint32_t m)
+{
+    struct job_record r;
+    for (unsigned fields = 0; fields < JOB_FIELD_SETS; fields++) {
+        for (unsigned plain = 0; plain < JOB_FIELD_SETS; plain++) {
+            job_good(&r, m, fields, plain);
+            try_slices(&r, ALL_PAIRS);
+        }
+    }
+}
+
+/* Every set of faults. */
+static void try_faults(uint32_t m)
+{
+    struct job_record r;
+    for (unsigned faults = 0; faults < FAULT_SETS; faults++) {
+        job_good(&r, m, (unsigned)draw_below(JOB_FIELD_SETS), 0);
+        r.kind = JOB_SEVERAL_FAULTS;
+        job_spoil(&r, faults);
+        try_slices(&r, 3);
+    }
+}
+
+int main(int argc, char **argv)
+{
+    unsigned long seed = 1, rounds = 10;
+    if (argc > 1)
+        seed = strtoul(argv[1], NULL, 10);
+    if (argc > 2)
+        rounds = strtoul(argv[2], NULL, 10);
+    printf("compare_job: seed %lu, rounds %lu\n", seed, rounds);
+    draw_seed(seed);
+    job_check_open(seed);
+    run_examples();
+    for (uint32_t m = JOB_MIN_M; m <= JOB_MAX_M; m++)
+        try_limits(m);
+    for (unsigned long round = 0; round < rounds; round++) {
+        for (uint32_t m = JOB_MIN_M; m <= JOB_MAX_M; m++) {
+            try_good(m);
+            try_faults(m);
+        }
+        for (unsigned kind = 0; kind < 16 * JOB_KINDS; kind++) {
+            struct job_record r;
+            job_make(&r, (enum job_kind)(kind % JOB_KINDS));
+            try_slices(&r, 2 + draw_below(4));
+        }
+    }
+    if (!job_check_report()) {
+        printf("compare_job: FAILED: a refusal or an accepted call was never reached (seed %lu)\n", seed);
+        return 1;
+    }
+    printf("compare_job: %lu calls agree (seed %lu)\n", job_check_count(), seed);
+    return 0;
+}

@@ -1,0 +1,163 @@
+#include "job_check.h"
+
+#include "caldurrex.h"
+#include "lent.h"
+#include "reference_job.h"
+
+#include <signal.h>
+#include <stdio.h>
+#include <stdlib.h>
+#include <string.h>
+
+_Static_assert(CALDURREX_BAD_M == 1 && CALDURREX_BAD_MAP_BIT == 3 && CALDURREX_BAD_LIST_SIZE == 4 &&
+                   CALDURREX_BAD_STOP == 5 && CALDURREX_BAD_SOFT_VALUE == 7 && CALDURREX_SHORT_OUTPUT == 10 &&
+                   CALDURREX_BAD_RECORD_LENGTH == 13 && CALDURREX_BAD_FIELD_MAP == 14,
+               "the header names the refusals by the numbers of the rules");
+
+/* Room for the longest slices tried, with something left over for guard zones. */
+enum { MAP_ROOM = 4096, SOFT_ROOM = 8192, RECORD_ROOM = JOB_ROOM + 4096 };
+enum { ANSWERS = 15, ROWS = 12 };
+
+static struct lent record, map, soft;
+static const struct job_record *under_way;
+static unsigned long seed, calls, tally[ROWS][ANSWERS];
+
+static void fail(const struct job_record *r, const char *what)
+{
+    printf("compare_job: %s\n", what);
+    printf("  made for m %lu, map of %zu bytes, %zu soft values, record of %zu bytes\n ", (unsigned long)r->m,
+           map.len, soft.len / 2, r->len);
+    for (size_t i = 0; i < r->len && i < 64; i++)
+        printf(" %02x", r->bytes[i]);
+    printf("\ncompare_job: FAILED at call %lu (seed %lu)\n", calls, seed);
+    exit(1);
+}
+
+/* An access outside a room. If the library made it, no output was under way that the
+ * messages could disturb. */
+static void on_fault(int number)
+{
+    if (under_way != NULL)
+        fail(under_way, "memory outside the slices was touched");
+    signal(number, SIG_DFL);
+    raise(number);
+}
+
+void job_check_open(unsigned long seed_used)
+{
+    seed = seed_used;
+    lent_open(&record, "record", RECORD_ROOM);
+    lent_open(&map, "map", MAP_ROOM);
+    lent_open(&soft, "soft", SOFT_ROOM);
+    signal(SIGSEGV, on_fault);
+    signal(SIGBUS, on_fault);
+}
+
+/* ---- judging */
+
+static int same_answer(const struct caldurrex_job *x, const struct reference_job *y)
+{
+    return x->refusal == y->refusal && x->m == y->m && x->list_size == y->list_size && x->stop == y->stop &&
+           x->frame == y->frame;
+}
+
+/* What the making of the record tells: the refusal, or the fields, map and soft values. */
+static struct reference_job made(const struct job_record *r)
+{
+    size_t n = (size_t)1 << r->m;
+    struct reference_job job = {.refusal = r->refusal};
+    if (r->refusal == 0 && (map.len < job_map_len(r->m) || soft.len / 2 < n))
+        job.refusal = 10;
+    if (job.refusal == 0)
+        job = (struct reference_job){0, r->m, r->list_size, r->stop, r->frame};
+    return job;
+}
+
+static void judge_answer(const struct job_record *r, const struct caldurrex_job *answer,
+                         const struct reference_job *right)
+{
+    struct reference_job by_making = r->refusal == JOB_UNKNOWN ? *right : made(r);
+    if (same_answer(answer, right) && same_answer(answer, &by_making))
+        return;
+    const struct reference_job was = {answer->refusal, answer->m, answer->list_size, answer->stop, answer->frame};
+    const struct reference_job *all[3] = {&was, &by_making, right};
+    static const char *const whose[3] = {"by the library", "by construction", "by the reference"};
+    for (size_t i = 0; i < 3; i++)
+        printf("  %s: refusal %lu, m %lu, list size %lu, stop %lu, frame %lu\n", whose[i],
+               (unsigned long)all[i]->refusal, (unsigned long)all[i]->m, (unsigned long)all[i]->list_size,
+               (unsigned long)all[i]->stop, (unsigned long)all[i]->frame);
+    fail(r, "the answer differs");
+}
+
+/* The reference's outputs, too, are those that the making of the record tells. */
+static void judge_reference(const struct job_record *r, const uint8_t *want_map, const int16_t *want_soft)
+{
+    if (memcmp(want_map, r->map, job_map_len(r->m)) != 0 ||
+        memcmp(want_soft, r->soft, ((size_t)1 << r->m) * sizeof r->soft[0]) != 0)
+        fail(r, "the reference gives another map or other soft values than the record was made of");
+}
+
+static void judge(const struct job_record *r, const struct caldurrex_job *answer)
+{
+    static uint8_t want_map[MAP_ROOM];
+    static int16_t want_soft[SOFT_ROOM / 2];
+    memcpy(want_map, map.before + (map.at - map.room), map.len);
+    memcpy(want_soft, soft.before + (soft.at - soft.room), soft.len);
+    struct reference_job right = reference_read_job(r->bytes, r->len, want_map, map.len, want_soft, soft.len / 2);
+    judge_answer(r, answer, &right);
+    if (!lent_holds(&record, NULL))
+        fail(r, "the record or its guard was written");
+    if (answer->refusal != 0) {
+        if (!lent_holds(&map, NULL) || !lent_holds(&soft, NULL))
+            fail(r, "a refused call wrote");
+        return;
+    }
+    if (r->refusal == 0)
+        judge_reference(r, want_map, want_soft);
+    if (!lent_holds(&map, want_map) || !lent_holds(&soft, (const uint8_t *)want_soft))
+        fail(r, "an output or its guard differs");
+}
+
+void job_check(const struct job_record *r, size_t map_len, size_t soft_len)
+{
+    lent_place(&record, r->bytes, r->len);
+    lent_place(&map, NULL, map_len);
+    lent_place_aligned(&soft, NULL, soft_len * sizeof r->soft[0], sizeof r->soft[0]);
+    calls++;
+    under_way = r;
+    struct caldurrex_job answer =
+        caldurrex_read_job(record.at, record.len, map.at, map_len, (int16_t *)(void *)soft.at, soft_len);
+    under_way = NULL;
+    judge(r, &answer);
+    tally[r->m][answer.refusal]++;
+}
+
+unsigned long job_check_count(void)
+{
+    return calls;
+}
+
+/* ---- the report */
+
+static int print_row(uint32_t m)
+{
+    static const uint32_t columns[] = {0, 1, 3, 4, 5, 7, 10, 13, 14};
+    int reached = 1;
+    printf("%2lu", (unsigned long)m);
+    for (size_t i = 0; i < sizeof columns / sizeof columns[0]; i++) {
+        int possible = columns[i] != 3 || m == 2; /* only n = 4 leaves map bits past n */
+        reached &= !possible || tally[m][columns[i]] > 0;
+        printf(i == 0 ? " %9lu" : " %6lu", tally[m][columns[i]]);
+    }
+    printf("%s\n", reached ? "" : "  NOT ALL REACHED");
+    return reached;
+}
+
+int job_check_report(void)
+{
+    int reached = 1;
+    printf("%2s %9s %6s %6s %6s %6s %6s %6s %6s %6s\n", "m", "accepted", "1", "3", "4", "5", "7", "10", "13", "14");
+    for (uint32_t m = JOB_MIN_M; m <= JOB_MAX_M; m++)
+        reached &= print_row(m);
+    return reached;
+}

@@ -1,0 +1,149 @@
+#include "reference_job.h"
+
+#include "paper_decoder.h"
+#include "reference_codec.h"
+
+#include <stdio.h>
+#include <string.h>
+
+/* The bits of a record's first byte. */
+enum { HAS_LIST_SIZE = 1, HAS_STOP = 2, HAS_FRAME = 4, NO_FIELDS = 0xf8 };
+
+/* The next number of count bytes, low byte first; at goes behind it. */
+static uint32_t take(const uint8_t **at, size_t count)
+{
+    uint32_t number = 0;
+    for (size_t i = 0; i < count; i++)
+        number += (uint32_t)(*at)[i] << (8 * i);
+    *at += count;
+    return number;
+}
+
+/* ---- the reader */
+
+/* The refusals that look at no more than the first two bytes and the length. */
+static uint32_t shape_refusal(const uint8_t *record, size_t len)
+{
+    if (len == 0)
+        return 13;
+    if (record[0] & NO_FIELDS)
+        return 14;
+    if (len == 1)
+        return 13;
+    if (record[1] < 2 || record[1] > REFERENCE_MAX_M)
+        return 1;
+    size_t n = (size_t)1 << record[1], need = 2;
+    need += record[0] & HAS_LIST_SIZE ? 1 : 0;
+    need += record[0] & HAS_STOP ? 2 : 0;
+    need += record[0] & HAS_FRAME ? 4 : 0;
+    need += (n + 7) / 8 + 2 * n;
+    return len == need ? 0 : 13;
+}
+
+/* A record of the right length taken apart; its fields may be out of range. */
+struct parts {
+    struct reference_job job;
+    size_t n, map_len;
+    const uint8_t *map;
+    int16_t soft[REFERENCE_MAX_N];
+};
+
+static void take_apart(const uint8_t *record, struct parts *p)
+{
+    uint8_t fields = record[0];
+    const uint8_t *at = record + 1;
+    memset(&p->job, 0, sizeof p->job);
+    p->job.m = take(&at, 1);
+    p->n = (size_t)1 << p->job.m;
+    p->job.list_size = fields & HAS_LIST_SIZE ? take(&at, 1) : 4;
+    p->job.stop = fields & HAS_STOP ? take(&at, 2) : (uint32_t)p->n;
+    p->job.frame = fields & HAS_FRAME ? take(&at, 4) : 0;
+    p->map = at;
+    p->map_len = (p->n + 7) / 8;
+    at += p->map_len;
+    for (size_t i = 0; i < p->n; i++) {
+        int32_t bits = (int32_t)take(&at, 2);
+        p->soft[i] = (int16_t)(bits < 32768 ? bits : bits - 65536);
+    }
+}
+
+static uint32_t value_refusal(const struct parts *p)
+{
+    if (reference_code_refusal(p->job.m, p->map, p->map_len) != 0)
+        return 3; /* m and the map's length are right */
+    if (p->job.list_size < 1 || p->job.list_size > PAPER_MAX_LIST)
+        return 4;
+    if (p->job.stop > p->n)
+        return 5;
+    for (size_t i = 0; i < p->n; i++)
+        if (p->soft[i] < -2047 || p->soft[i] > 2047)
+            return 7;
+    return 0;
+}
+
+struct reference_job reference_read_job(const uint8_t *record, size_t len,
+                                        uint8_t *map, size_t map_len,
+                                        int16_t *soft, size_t soft_len)
+{
+    struct parts p;
+    struct reference_job refused = {.refusal = shape_refusal(record, len)};
+    if (refused.refusal != 0)
+        return refused;
+    take_apart(record, &p);
+    refused.refusal = value_refusal(&p);
+    if (refused.refusal == 0 && (map_len < p.map_len || soft_len < p.n))
+        refused.refusal = 10;
+    if (refused.refusal != 0)
+        return refused;
+    memset(map, 0, map_len);
+    memset(soft, 0, soft_len * sizeof soft[0]);
+    memcpy(map, p.map, p.map_len);
+    memcpy(soft, p.soft, p.n * sizeof soft[0]);
+    return p.job;
+}
+
+/* ---- the program's output */
+
+enum { N = PROGRAM_MAX_N, L = PROGRAM_MAX_LIST };
+
+static size_t put_bits(char *out, size_t n, const uint8_t *bits)
+{
+    for (size_t i = 0; i < n; i++)
+        out[i] = bits[i] ? '1' : '0';
+    return n;
+}
+
+/* What is printed for a good record that the program's tables serve. */
+static size_t put_rows(const struct reference_job *job, const uint8_t *map, const int16_t *soft, char *out)
+{
+    static uint32_t numbers[32 * N * L];
+    static uint8_t bytes[(4 * N + 256) * L], inputs[N * L], words[N * L];
+    static int32_t scores[L];
+    size_t n = (size_t)1 << job->m, at = 0;
+    int32_t rows = paper_decode(job->m, map, (n + 7) / 8, job->list_size, job->stop, soft, n, numbers, 32 * N * L,
+                                bytes, sizeof bytes, inputs, sizeof inputs, words, sizeof words, scores, L);
+    at += (size_t)sprintf(out + at, "frame %lu rows %ld\n", (unsigned long)job->frame, (long)rows);
+    for (size_t r = 0; (int32_t)r < rows; r++) {
+        at += (size_t)sprintf(out + at, "%zu %ld ", r, (long)scores[r]);
+        at += put_bits(out + at, n, inputs + r * n);
+        out[at++] = ' ';
+        at += put_bits(out + at, n, words + r * n);
+        out[at++] = '\n';
+    }
+    out[at] = 0;
+    return at;
+}
+
+size_t reference_output(const uint8_t *record, size_t len, char *out)
+{
+    static uint8_t map[REFERENCE_MAX_N / 8];
+    static int16_t soft[REFERENCE_MAX_N];
+    struct reference_job job = {.refusal = 13};
+    if (len <= PROGRAM_MAX_INPUT)
+        job = reference_read_job(record, len, map, sizeof map, soft, REFERENCE_MAX_N);
+    if (job.refusal == 0 && ((size_t)1 << job.m > PROGRAM_MAX_N || job.list_size > PROGRAM_MAX_LIST))
+        job.refusal = 8;
+    if (job.refusal != 0)
+        return (size_t)sprintf(out, "refused %lu\n", (unsigned long)job.refusal);
+    return put_rows(&job, map, soft, out);
+}
