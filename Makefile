@@ -1,5 +1,6 @@
-# make run    encode, extract and decode with the example hosts
-# make test   prove everything and compare the library with the references
+# make run    decode a record: the sample, or the file RECORD names
+# make test   prove everything and compare the library and the program with the references
+# make hosts  build the library and run the example hosts written in C
 # make bench  speed and instructions a block
 # make clean
 
@@ -9,17 +10,25 @@ CFLAGS = -std=c11 -O2 -Wall -Wextra -Werror
 export CC CFLAGS
 
 LIBRARY = target/staticlib/libcaldurrex.a
+PROGRAM = target/bin/decode_job
 OUT = target/c
 PROVED = crates.txt $(shell find crates -name '*.rt' -o -name '*.antt')
 
-.PHONY: run test bench clean
+# The sample record of the rules, as bytes.
+RECORD = crates/decode_job/stdin
 
-run: $(OUT)/encode_extract $(OUT)/decode_block
-	$(OUT)/encode_extract
-	$(OUT)/decode_block
+HOSTS = encode_extract decode_block read_record
+
+.PHONY: run test hosts bench clean
+
+run: $(PROGRAM)
+	@$(PROGRAM) < $(RECORD)
 
 test:
 	tests/run-all
+
+hosts: $(HOSTS:%=$(OUT)/%)
+	for host in $(HOSTS); do $(OUT)/$$host || exit 1; done
 
 bench: $(OUT)/bench_codec $(OUT)/bench_decoder
 	$(OUT)/bench_codec
@@ -30,10 +39,21 @@ bench: $(OUT)/bench_codec $(OUT)/bench_decoder
 clean:
 	rm -rf target
 
-$(LIBRARY): $(PROVED)
-	rt staticlib caldurrex
+# rt says much: it is shown only where something is not proved.
+define prove
+	@mkdir -p target
+	@echo 'rt $(1): takes some minutes the first time; what it says goes to target/rt.log' >&2
+	@rt $(1) >target/rt.log 2>&1 || { cat target/rt.log >&2; exit 1; }
+	@touch $@
+endef
 
-$(OUT)/encode_extract $(OUT)/decode_block: $(OUT)/%: examples/%.c include/caldurrex.h $(LIBRARY)
+$(PROGRAM): $(PROVED)
+	$(call prove,check decode_job)
+
+$(LIBRARY): $(PROVED)
+	$(call prove,staticlib caldurrex)
+
+$(HOSTS:%=$(OUT)/%): $(OUT)/%: examples/%.c include/caldurrex.h $(LIBRARY)
 	@mkdir -p $(OUT)
 	$(CC) $(CFLAGS) -Iinclude -o $@ $< $(LIBRARY)
 

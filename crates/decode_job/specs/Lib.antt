@@ -1,0 +1,5 @@
+pub mod ProgramOutput
+pub mod Block
+pub mod Records
+pub mod Texts
+pub mod Sample

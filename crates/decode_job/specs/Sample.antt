@@ -1,0 +1,38 @@
+-- The sample of 01, "The program's output", and inputs that are refused, by the definitions.
+use mathlib.Core.Path.{_≡_, refl}
+use mathlib.Core.List.{List, [], _∷_, map}
+use Prim.Native.Nat.{ℕ}
+use lib.ListN.{replicate}
+use Rattle.spec.specs.Bits.{bitsOf, unpacked}
+use Rattle.spec.specs.Transform.{transform}
+use Rattle.spec.specs.Code.{frozen}
+use Rattle.spec.specs.Faults.{first, some}
+use Rattle.spec.specs.Refusals.{pastEnd}
+use Rattle.spec.specs.Record.{softFrom}
+use Rattle.spec.specs.Score.{largest, score}
+use Rattle.spec.specs.Decoder.{children, live, rows}
+use Rattle.job.specs.Sample.{sample}
+use Rattle.text.specs.Decimal.{digits, decimal}
+use Rattle.text.specs.Output.{bitText, refusedText, frameLine, rowLine}
+use Rattle.text.specs.RowsText.{linesOf, textOf}
+use Rattle.decode_job.specs.ProgramOutput.{inputFaults, programOutput}
+
+-- `frame 0 rows 2`, `0 13 0010 0110`, `1 11 0000 0000`
+pub sample-output : programOutput sample ≡
+    102 ∷ 114 ∷ 97 ∷ 109 ∷ 101 ∷ 32 ∷ 48 ∷ 32 ∷ 114 ∷ 111 ∷ 119 ∷ 115 ∷ 32 ∷ 50 ∷ 10
+    ∷ 48 ∷ 32 ∷ 49 ∷ 51 ∷ 32 ∷ 48 ∷ 48 ∷ 49 ∷ 48 ∷ 32 ∷ 48 ∷ 49 ∷ 49 ∷ 48 ∷ 10
+    ∷ 49 ∷ 32 ∷ 49 ∷ 49 ∷ 32 ∷ 48 ∷ 48 ∷ 48 ∷ 48 ∷ 32 ∷ 48 ∷ 48 ∷ 48 ∷ 48 ∷ 10
+    ∷ []
+unfolding sample programOutput textOf linesOf frameLine rowLine bitText decimal digits rows live children score largest transform frozen unpacked bitsOf first some pastEnd softFrom
+sample-output = refl
+
+-- an empty input, one that begins with 08, one of 4,097 bytes that begins so, and a good record of four positions and five rows
+abbrev pub refusalOf : List ℕ → ℕ
+refusalOf s = first (inputFaults s)
+
+unfoldable pub inputs : List (List ℕ)
+inputs = [] ∷ (8 ∷ []) ∷ replicate 4097 8 ∷ (1 ∷ 2 ∷ 5 ∷ 3 ∷ 5 ∷ 0 ∷ 253 ∷ 255 ∷ 2 ∷ 0 ∷ 7 ∷ 0 ∷ []) ∷ []
+
+pub refused-inputs : map refusalOf inputs ≡ 13 ∷ 14 ∷ 13 ∷ 8 ∷ []
+unfolding inputs first some pastEnd unpacked bitsOf softFrom
+refused-inputs = refl
