@@ -2,6 +2,7 @@
 # make test   prove everything and compare the library and the program with the references
 # make hosts  build the library and run the example hosts written in C
 # make bench  speed and instructions a block
+# make long-blocks  what run_long_blocks must print, made again by the second decoder
 # make clean
 
 CC = cc
@@ -19,7 +20,7 @@ RECORD = crates/decode_job/stdin
 
 HOSTS = encode_extract decode_block read_record
 
-.PHONY: run test hosts bench clean
+.PHONY: run test hosts bench long-blocks clean
 
 run: $(PROGRAM)
 	@$(PROGRAM) < $(RECORD)
@@ -35,6 +36,13 @@ bench: $(OUT)/bench_codec $(OUT)/bench_decoder
 	bench/instructions $(OUT)/bench_codec
 	$(OUT)/bench_decoder
 	bench/instructions_decoder $(OUT)/bench_decoder
+
+# Without the library: what the proved decoder must print owes it nothing.
+LONG_BLOCKS = tests/make_long_blocks.c tests/paper_decoder.c tests/reference_codec.c
+
+long-blocks: $(OUT)/make_long_blocks
+	$(OUT)/make_long_blocks >$(OUT)/long_blocks.txt
+	cp $(OUT)/long_blocks.txt crates/run_long_blocks/stdout
 
 clean:
 	rm -rf target
@@ -69,3 +77,7 @@ BENCH_DECODER = bench/bench_decoder.c bench/plain_decoder.c tests/draw.c
 $(OUT)/bench_decoder: $(BENCH_DECODER) bench/plain_decoder.h include/caldurrex.h tests/draw.h $(LIBRARY)
 	@mkdir -p $(OUT)
 	$(CC) $(CFLAGS) -O3 -Iinclude -Itests -o $@ $(BENCH_DECODER) $(LIBRARY)
+
+$(OUT)/make_long_blocks: $(LONG_BLOCKS) tests/paper_decoder.h tests/reference_codec.h
+	@mkdir -p $(OUT)
+	$(CC) $(CFLAGS) -Itests -o $@ $(LONG_BLOCKS)

@@ -1,0 +1,69 @@
+// Texts and numbers, printed.
+ghost use mathlib.Core.Path.{_≡_};
+ghost use Prim.Native.Nat.{_≤_};
+ghost use lib.ListN.{length};
+
+pub fn say(text: &[u8]) {
+    io::write_all(1, text);
+}
+
+// A text and a number.
+pub fn say_number(text: &[u8], x: u32) {
+    io::write_all(1, text);
+    io::print_decimal(1, x as u64);
+}
+
+// A text and a number, to the end of the line.
+pub fn say_last(text: &[u8], x: u32) {
+    say_number(text, x);
+    io::write_all(1, b"\n");
+}
+
+fn say_part(out: &[u8], len: usize)
+    requires { ⌜ len ≤ length (now out) ⌝ }
+{
+    io::write_all(1, &out[..len]);
+}
+
+pub fn say_signed(z: i32) {
+    let mut out = [0u8; 11];
+    let len = text::put_signed(&mut out, 0, z);
+    say_part(&out, len);
+}
+
+fn say_byte(x: u8) {
+    io::print_decimal(1, x as u64);
+}
+
+// The number of each byte, with nothing between them.
+fn say_all(bytes: &[u8]) {
+    let mut i = 0;
+    while i < bytes.len() {
+        say_byte(bytes[i]);
+        i += 1;
+    }
+}
+
+// A text and the number of each byte.
+pub fn say_bytes(text: &[u8], bytes: &[u8]) {
+    say(text);
+    say_all(bytes);
+}
+
+fn widen(x: i16) -> i32 {
+    x as i32
+}
+
+fn say_soft(x: i16) {
+    say(b" ");
+    say_signed(widen(x));
+}
+
+// A space and a number for each soft value.
+pub fn say_softs(soft: &[i16]) {
+    let mut i = 0;
+    while i < soft.len() {
+        say_soft(soft[i]);
+        i += 1;
+    }
+}
