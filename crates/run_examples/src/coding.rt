@@ -10,12 +10,12 @@ fn say_answer(text: &[u8], answer: u32, output: &[u8]) {
     say(b"\n");
 }
 
-pub fn encode(text: &[u8], m: u32, map: &[u8], payload: &[u8], word: &mut [u8]) {
+pub(crate) fn encode(text: &[u8], m: u32, map: &[u8], payload: &[u8], word: &mut [u8]) {
     let answer = codec::encode(m, map, payload, word);
     say_answer(text, answer, word);
 }
 
-pub fn extract(text: &[u8], m: u32, map: &[u8], word: &[u8], payload: &mut [u8]) {
+pub(crate) fn extract(text: &[u8], m: u32, map: &[u8], word: &[u8], payload: &mut [u8]) {
     let answer = codec::extract(m, map, word, payload);
     say_answer(text, answer, payload);
 }

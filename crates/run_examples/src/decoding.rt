@@ -32,7 +32,7 @@ pub struct Lent {
 }
 
 // Enough for n = 4 and one row, and no more.
-pub fn enough() -> Lent
+pub(crate) fn enough() -> Lent
     ensures { λ r. ⌜ (r .numbers ≡ 128) × (r .bytes ≡ 272) × (r .inputs ≡ 4) × (r .words ≡ 4) ⌝ }
 {
     Lent {
@@ -66,7 +66,7 @@ fn decode_in(
     }
 }
 
-pub fn decode(text: &[u8], m: u32, map: &[u8], l: u32, p: u32, soft: &[i16], lent: Lent)
+pub(crate) fn decode(text: &[u8], m: u32, map: &[u8], l: u32, p: u32, soft: &[i16], lent: Lent)
     requires { ⌜ (lent .numbers ≤ 512) × (lent .bytes ≤ 320) × (lent .inputs ≤ 16) × (lent .words ≤ 16) ⌝ }
 {
     let a = lent.numbers;

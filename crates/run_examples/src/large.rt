@@ -40,28 +40,33 @@ fn decode_large() {
     decode_large_in(&mut numbers);
 }
 
-// n would be 2,048: the slices are as long as that asks for one row.
-fn decode_too_long() {
-    let map = [0u8; 256];
-    let soft = [1i16; 2048];
+// A call that must be refused for m or for l: what is lent is enough for 2,048 positions and one row, and for 4 and 33 rows.
+fn decode_beyond(text: &[u8], m: u32, map: &[u8], l: u32, p: u32, soft: &[i16]) {
     let mut numbers = [5u32; 65536];
-    let mut bytes = [5u8; 8448];
+    let mut bytes = [5u8; 8976];
     let mut inputs = [5u8; 2048];
     let mut words = [5u8; 2048];
-    let mut scores = [5i32; 1];
+    let mut scores = [5i32; 33];
     let answer = decoder::decode(
-        11,
-        &map,
-        1,
-        2048,
-        &soft,
+        m,
+        map,
+        l,
+        p,
+        soft,
         &mut numbers,
         &mut bytes,
         &mut inputs,
         &mut words,
         &mut scores,
     );
-    say_decoded(b"decode, m = 11", answer);
+    say_decoded(text, answer);
+}
+
+// n would be 2,048.
+fn decode_too_long() {
+    let map = [0u8; 256];
+    let soft = [1i16; 2048];
+    decode_beyond(b"decode, m = 11", 11, &map, 1, 2048, &soft);
 }
 
 fn code_too_long() {
@@ -81,31 +86,9 @@ fn record_too_long() {
     read(b"record, m = 11", &record);
 }
 
-// The slices are as long as 33 rows ask.
-fn decode_list_too_long() {
-    let soft = [5i16, -3, 2, 7];
-    let mut numbers = [5u32; 4224];
-    let mut bytes = [5u8; 8976];
-    let mut inputs = [5u8; 132];
-    let mut words = [5u8; 132];
-    let mut scores = [5i32; 33];
-    let answer = decoder::decode(
-        2,
-        b"\x03",
-        33,
-        4,
-        &soft,
-        &mut numbers,
-        &mut bytes,
-        &mut inputs,
-        &mut words,
-        &mut scores,
-    );
-    say_decoded(b"decode, l = 33", answer);
-}
-
 fn list_too_long() {
-    decode_list_too_long();
+    let soft = [5i16, -3, 2, 7];
+    decode_beyond(b"decode, l = 33", 2, b"\x03", 33, 4, &soft);
     read(
         b"record, l = 33",
         b"\x01\x02\x21\x03\x05\x00\xfd\xff\x02\x00\x07\x00",
@@ -118,7 +101,7 @@ fn too_long() {
     record_too_long();
 }
 
-pub fn run() {
+pub(crate) fn run() {
     decode_large();
     too_long();
     list_too_long();

@@ -21,7 +21,7 @@ fn say_slices(map: &[u8], soft: &[i16]) {
 }
 
 // With room for one byte of map and four soft values.
-pub fn read(text: &[u8], record: &[u8]) {
+pub(crate) fn read(text: &[u8], record: &[u8]) {
     let mut map = [5u8; 1];
     let mut soft = [5i16; 4];
     let answer = job::read_job(record, &mut map, &mut soft);

@@ -208,7 +208,7 @@ fn lengths() {
     outputs();
 }
 
-pub fn run() {
+pub(crate) fn run() {
     codes();
     values();
     lengths();

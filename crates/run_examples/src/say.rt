@@ -3,18 +3,18 @@ ghost use mathlib.Core.Path.{_≡_};
 ghost use Prim.Native.Nat.{_≤_};
 ghost use lib.ListN.{length};
 
-pub fn say(text: &[u8]) {
+pub(crate) fn say(text: &[u8]) {
     io::write_all(1, text);
 }
 
 // A text and a number.
-pub fn say_number(text: &[u8], x: u32) {
+pub(crate) fn say_number(text: &[u8], x: u32) {
     io::write_all(1, text);
     io::print_decimal(1, x as u64);
 }
 
 // A text and a number, to the end of the line.
-pub fn say_last(text: &[u8], x: u32) {
+pub(crate) fn say_last(text: &[u8], x: u32) {
     say_number(text, x);
     io::write_all(1, b"\n");
 }
@@ -25,7 +25,7 @@ fn say_part(out: &[u8], len: usize)
     io::write_all(1, &out[..len]);
 }
 
-pub fn say_signed(z: i32) {
+pub(crate) fn say_signed(z: i32) {
     let mut out = [0u8; 11];
     let len = text::put_signed(&mut out, 0, z);
     say_part(&out, len);
@@ -45,7 +45,7 @@ fn say_all(bytes: &[u8]) {
 }
 
 // A text and the number of each byte.
-pub fn say_bytes(text: &[u8], bytes: &[u8]) {
+pub(crate) fn say_bytes(text: &[u8], bytes: &[u8]) {
     say(text);
     say_all(bytes);
 }
@@ -60,7 +60,7 @@ fn say_soft(x: i16) {
 }
 
 // A space and a number for each soft value.
-pub fn say_softs(soft: &[i16]) {
+pub(crate) fn say_softs(soft: &[i16]) {
     let mut i = 0;
     while i < soft.len() {
         say_soft(soft[i]);

@@ -34,7 +34,7 @@ fn sample_record() {
     );
 }
 
-pub fn run() {
+pub(crate) fn run() {
     no_payload();
     sample_record();
     large::run();

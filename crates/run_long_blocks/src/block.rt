@@ -28,7 +28,7 @@ fn make_values(b: Block, n: usize, seed: u64, map: &[u8], values: &mut [i16])
     make_soft(soft, &word, n, x, values);
 }
 
-pub fn make_block(b: Block, n: usize, map: &mut [u8], values: &mut [i16])
+pub(crate) fn make_block(b: Block, n: usize, map: &mut [u8], values: &mut [i16])
     requires { ⌜ (b .seed < 2147483647) × (n ≤ 1024) × (n ≤ length (now values)) × (128 ≤ length (now map)) ⌝ }
 {
     let code = b.code;

@@ -41,7 +41,7 @@ fn map_byte(code: Code, at: u8, x: u64) -> u8 {
 }
 
 // The first `len` bytes of a map, with a number drawn for each. Returns the last number.
-pub fn make_map(code: Code, len: usize, seed: u64, map: &mut [u8]) -> u64
+pub(crate) fn make_map(code: Code, len: usize, seed: u64, map: &mut [u8]) -> u64
     requires { ⌜ (seed < 2147483647) × (len ≤ length (now map)) × (len ≤ 128) ⌝ }
     ensures { λ r. ⌜ r < 2147483647 ⌝ }
 {
@@ -64,7 +64,7 @@ fn input_bit(flag: u8, x: u64) -> u8 {
 }
 
 // The first n bits of an input, with a number drawn for each. Returns the last number.
-pub fn make_input(map: &[u8], n: usize, seed: u64, input: &mut [u8]) -> u64
+pub(crate) fn make_input(map: &[u8], n: usize, seed: u64, input: &mut [u8]) -> u64
     requires { ⌜ (seed < 2147483647) × (n ≤ length (now input)) × (n ≤ 8 * length (now map)) ⌝ }
     ensures { λ r. ⌜ r < 2147483647 ⌝ }
 {

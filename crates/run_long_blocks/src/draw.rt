@@ -2,7 +2,7 @@
 ghost use Prim.Native.Nat.{_<_};
 
 // The number behind x, 1 to 2,147,483,646 each.
-pub fn after(x: u64) -> u64
+pub(crate) fn after(x: u64) -> u64
     requires { ⌜ x < 2147483647 ⌝ }
     ensures { λ r. ⌜ r < 2147483647 ⌝ }
 {

@@ -69,7 +69,13 @@ fn count_scores(s: &[i32]) -> usize
 }
 
 // Behind the rows: in the inputs and the words from a place on, in the scores from another.
-pub fn count_behind(from: usize, rows: usize, inputs: &[u8], words: &[u8], scores: &[i32]) -> usize
+pub(crate) fn count_behind(
+    from: usize,
+    rows: usize,
+    inputs: &[u8],
+    words: &[u8],
+    scores: &[i32],
+) -> usize
     requires { ⌜ (rows ≤ 32) × (from ≤ 32768) × (length (now inputs) ≡ 32768) × (length (now words) ≡ 32768) × (length (now scores) ≡ 32) ⌝ }
     ensures { λ r. ⌜ r ≤ 65568 ⌝ }
 {
@@ -79,7 +85,7 @@ pub fn count_behind(from: usize, rows: usize, inputs: &[u8], words: &[u8], score
     a + b + c
 }
 
-pub fn count_tables(numbers: &[u32], bytes: &[u8]) -> usize
+pub(crate) fn count_tables(numbers: &[u32], bytes: &[u8]) -> usize
     requires { ⌜ (length (now numbers) ≡ 1048576) × (length (now bytes) ≡ 139264) ⌝ }
     ensures { λ r. ⌜ r ≤ 1187840 ⌝ }
 {

@@ -92,7 +92,7 @@ fn longer(i: u32) -> Block
     }
 }
 
-pub fn block_at(i: u32) -> Block
+pub(crate) fn block_at(i: u32) -> Block
     ensures { λ r. ⌜ (3 ≤ r .m) × (r .m ≤ 10) × (r .seed < 2147483647) ⌝ }
 {
     if i < 10 {

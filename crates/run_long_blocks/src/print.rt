@@ -4,12 +4,12 @@ ghost use Prim.Native.Nat.{_+_, _*_, _/_, _≤_, _<_};
 ghost use lib.ListN.{length};
 
 // A word and a number.
-pub fn print_named(word: &[u8], x: u32) {
+pub(crate) fn print_named(word: &[u8], x: u32) {
     io::write_all(1, word);
     io::print_decimal(1, x as u64);
 }
 
-pub fn print_signed(z: i32) {
+pub(crate) fn print_signed(z: i32) {
     let mut out = [0u8; 11];
     let len = text::put_signed(&mut out, 0, z);
     print_part(&out, len);
@@ -61,7 +61,7 @@ fn print_part(out: &[u8], len: usize)
 }
 
 // A space and the bits in hexadecimal.
-pub fn print_bits(bits: &[u8])
+pub(crate) fn print_bits(bits: &[u8])
     requires { ⌜ length (now bits) ≤ 1024 ⌝ }
 {
     let mut out = [0u8; 256];

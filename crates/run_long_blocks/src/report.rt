@@ -21,7 +21,7 @@ fn print_heading(b: Block, answer: &[u8], x: u32) {
     io::write_all(1, b"\n");
 }
 
-pub fn print_refused(b: Block, k: u32) {
+pub(crate) fn print_refused(b: Block, k: u32) {
     print_heading(b, b" refused ", k);
 }
 
@@ -44,7 +44,7 @@ fn print_outputs(rows: usize, n: usize, inputs: &[u8], words: &[u8], scores: &[i
     count_behind(from, rows, inputs, words, scores)
 }
 
-pub fn print_block(
+pub(crate) fn print_block(
     b: Block,
     n: usize,
     rows: u32,

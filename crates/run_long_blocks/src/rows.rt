@@ -22,7 +22,13 @@ fn print_row(rank: u32, score: i32, input: &[u8], word: &[u8])
 }
 
 // A line for each row. Returns the place behind the last in the inputs and the words.
-pub fn print_rows(rows: usize, n: usize, inputs: &[u8], words: &[u8], scores: &[i32]) -> usize
+pub(crate) fn print_rows(
+    rows: usize,
+    n: usize,
+    inputs: &[u8],
+    words: &[u8],
+    scores: &[i32],
+) -> usize
     requires { ⌜ (rows ≤ 32) × (n ≤ 1024) × (length (now inputs) ≡ 32768) × (length (now words) ≡ 32768) × (length (now scores) ≡ 32) ⌝ }
     ensures { λ r. ⌜ r ≤ 32768 ⌝ }
 {

@@ -80,7 +80,7 @@ fn run_blocks(
 }
 
 // Tables and outputs for 1,024 positions and 32 rows. That nothing of what they hold at first comes through shows in the rows.
-pub fn run() {
+pub(crate) fn run() {
     let mut numbers = [2863311530u32; 1048576];
     let mut bytes = [170u8; 139264];
     let mut inputs = [170u8; 32768];

@@ -54,7 +54,7 @@ fn soft_value(soft: Soft, bit: u8, x: u64) -> i16 {
 }
 
 // The first n soft values, with a number drawn for each.
-pub fn make_soft(soft: Soft, word: &[u8], n: usize, seed: u64, values: &mut [i16])
+pub(crate) fn make_soft(soft: Soft, word: &[u8], n: usize, seed: u64, values: &mut [i16])
     requires { ⌜ (seed < 2147483647) × (n ≤ length (now values)) × (n ≤ length (now word)) ⌝ }
 {
     let mut x = seed;
