@@ -1,9 +1,13 @@
+# make look   the program on the sample within seconds, with nothing proved
 # make run    decode a record: the sample, or the file RECORD names
 # make test   prove everything and compare the library and the program with the references
 # make hosts  build the library and run the example hosts written in C
 # make bench  speed and instructions a block
-# make long-blocks  what run_long_blocks must print, made again by the second decoder
+# make stored-records  what decode_records reads and must print, made again by the second reader and decoder
 # make clean
+
+SHELL = /bin/bash
+.SHELLFLAGS = -o pipefail -c
 
 CC = cc
 CFLAGS = -std=c11 -O2 -Wall -Wextra -Werror
@@ -18,9 +22,18 @@ PROVED = crates.txt $(shell find crates -name '*.rt' -o -name '*.antt')
 # The sample record of the rules, as bytes.
 RECORD = crates/decode_job/stdin
 
-HOSTS = encode_extract decode_block read_record
+HOSTS = encode_extract decode_block read_record decode_links
 
-.PHONY: run test hosts bench long-blocks clean
+.PHONY: look run test hosts bench stored-records clean
+
+# rt try takes the sources as they are: it asks for no proof.
+look:
+	@echo 'The program on the sample, interpreted and compiled three ways. Nothing is proved by it, and'
+	@echo 'a run that is not proved checks no index: only what make run and make test prove is ours.'
+	@mkdir -p target
+	@rt try decode_job >target/look.log 2>&1 || { cat target/look.log >&2; exit 1; }
+	@echo 'It printed what crates/decode_job/stdout has:'
+	@cat crates/decode_job/stdout
 
 run: $(PROGRAM)
 	@$(PROGRAM) < $(RECORD)
@@ -38,20 +51,21 @@ bench: $(OUT)/bench_codec $(OUT)/bench_decoder
 	bench/instructions_decoder $(OUT)/bench_decoder
 
 # Without the library: what the proved decoder must print owes it nothing.
-LONG_BLOCKS = tests/make_long_blocks.c tests/paper_decoder.c tests/reference_codec.c
+RECORDS = tests/make_records.c tests/paper_decoder.c tests/reference_codec.c tests/reference_job.c
 
-long-blocks: $(OUT)/make_long_blocks
-	$(OUT)/make_long_blocks >$(OUT)/long_blocks.txt
-	cp $(OUT)/long_blocks.txt crates/run_long_blocks/stdout
+stored-records: $(OUT)/make_records
+	$(OUT)/make_records records >crates/decode_records/stdin
+	$(OUT)/make_records rows >$(OUT)/rows.txt
+	cp $(OUT)/rows.txt crates/decode_records/stdout
 
 clean:
 	rm -rf target
 
-# rt says much: it is shown only where something is not proved.
+# Shown is a line for each crate as it is proved; all that rt says is shown only where something is not.
 define prove
 	@mkdir -p target
-	@echo 'rt $(1): takes some minutes the first time; what it says goes to target/rt.log' >&2
-	@rt $(1) >target/rt.log 2>&1 || { cat target/rt.log >&2; exit 1; }
+	@echo 'rt $(1): takes some minutes the first time; all that it says goes to target/rt.log' >&2
+	@rt $(1) 2>&1 | tee target/rt.log | sed -u -n '/^rt: /p' >&2 || { cat target/rt.log >&2; exit 1; }
 	@touch $@
 endef
 
@@ -63,7 +77,7 @@ $(LIBRARY): $(PROVED)
 
 $(HOSTS:%=$(OUT)/%): $(OUT)/%: examples/%.c include/caldurrex.h $(LIBRARY)
 	@mkdir -p $(OUT)
-	$(CC) $(CFLAGS) -Iinclude -o $@ $< $(LIBRARY)
+	$(CC) $(CFLAGS) -pthread -Iinclude -o $@ $< $(LIBRARY)
 
 BENCH = bench/bench_codec.c tests/draw.c tests/reference_codec.c
 
@@ -78,6 +92,6 @@ $(OUT)/bench_decoder: $(BENCH_DECODER) bench/plain_decoder.h include/caldurrex.h
 	@mkdir -p $(OUT)
 	$(CC) $(CFLAGS) -O3 -Iinclude -Itests -o $@ $(BENCH_DECODER) $(LIBRARY)
 
-$(OUT)/make_long_blocks: $(LONG_BLOCKS) tests/paper_decoder.h tests/reference_codec.h
+$(OUT)/make_records: $(RECORDS) tests/paper_decoder.h tests/reference_codec.h tests/reference_job.h
 	@mkdir -p $(OUT)
-	$(CC) $(CFLAGS) -Itests -o $@ $(LONG_BLOCKS)
+	$(CC) $(CFLAGS) -Itests -o $@ $(RECORDS)

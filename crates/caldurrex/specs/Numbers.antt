@@ -20,20 +20,20 @@ numberOf (rowCount r) = pos r
 numberOf (refusedBy k) = negℤ (pos k)
 
 -- what C gets, and the lent slices as the call leaves them
-pub record Faced : Type 0 where
+pub record Returned : Type 0 where
   pub number : ℤ
   pub left : Lent
 
-abbrev pub returned : ℤ → Lent → Faced
+abbrev pub returned : ℤ → Lent → Returned
 returned z x = record { number = z; left = x }
 
-abbrev pub faced : Decoding → Faced
-faced o = returned (numberOf (o .answer)) (o .left)
+abbrev pub asNumber : Decoding → Returned
+asNumber o = returned (numberOf (o .answer)) (o .left)
 
 -- answers that fit a signed number of 32 bits
-pub data Small : Answer → Type 0 where
-  few-rows : {r : ℕ} → r ≤ 32 → Small (rowCount r)
-  low-number : {k : ℕ} → k ≤ 14 → Small (refusedBy k)
+pub data SmallAnswer : Answer → Type 0 where
+  few-rows : {r : ℕ} → r ≤ 32 → SmallAnswer (rowCount r)
+  low-number : {k : ℕ} → k ≤ 14 → SmallAnswer (refusedBy k)
 
 -- every number of a table is at most n
 data AtMost (n : ℕ) : List Fault → Type 0 where
@@ -57,18 +57,18 @@ refusal-small c l p soft r =
 rows-small : (c : Code) (l p : ℕ) (soft : List ℤ) (r : Room) → First (decodeFaults c l p soft r) 0 → length (rows (codeTransform c) c soft l p) ≤ 32
 rows-small c l p soft r f = omega (arith, rows-at-most c l p soft r f, list-in-range c l p soft r f .1)
 
-pub small : (c : Code) (l p : ℕ) (soft : List ℤ) (x : Lent) → Small (decodeOutcome c l p soft x .answer)
+pub small : (c : Code) (l p : ℕ) (soft : List ℤ) (x : Lent) → SmallAnswer (decodeOutcome c l p soft x .answer)
 unfolding decodeOutcome decodeServed decodeRefusal
 small c l p soft x = by-number (decodeRefusal c l p soft (roomOf x)) refl
   where
     by-number : (k : ℕ) → first (decodeFaults c l p soft (roomOf x)) ≡ k
-        → Small (settled k (λ j. decoding (refusedBy j) x) (decodedRows (roomOf x) (rows (codeTransform c) c soft l p)) .answer)
+        → SmallAnswer (settled k (λ j. decoding (refusedBy j) x) (decodedRows (roomOf x) (rows (codeTransform c) c soft l p)) .answer)
     by-number zero e = few-rows (rows-small c l p soft (roomOf x) (of-first (decodeFaults c l p soft (roomOf x)) 0 (sym e)))
     by-number (suc k) e = low-number (subst (λ (j : ℕ). j ≤ 14) e (refusal-small c l p soft (roomOf x)))
 
--- a call's face, from its outcome
-pub face-is : {z : ℤ} {a : Answer} {x : Lent} {o : Decoding} → z ≡ numberOf a → decoding a x ≡ o → returned z x ≡ faced o
-face-is {x} p e = ap (λ (z : ℤ). returned z x) p ∙ ap faced e
+-- what C gets of a call, from its outcome
+pub number-is : {z : ℤ} {a : Answer} {x : Lent} {o : Decoding} → z ≡ numberOf a → decoding a x ≡ o → returned z x ≡ asNumber o
+number-is {x} p e = ap (λ (z : ℤ). returned z x) p ∙ ap asNumber e
 
-pub answer-small : {a : Answer} {x : Lent} {o : Decoding} → Small (o .answer) → decoding a x ≡ o → Small a
-answer-small h e = subst (λ (o : Decoding). Small (o .answer)) (sym e) h
+pub answer-small : {a : Answer} {x : Lent} {o : Decoding} → SmallAnswer (o .answer) → decoding a x ≡ o → SmallAnswer a
+answer-small h e = subst (λ (o : Decoding). SmallAnswer (o .answer)) (sym e) h

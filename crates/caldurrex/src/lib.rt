@@ -4,7 +4,7 @@ ghost use Rattle.spec.specs.Code.{code};
 ghost use Rattle.spec.specs.Outcome.{written, encodeOutcome, extractOutcome, lent, decodeOutcome, readOutcome};
 ghost use Rattle.decoder.specs.Answers.{answerOf};
 ghost use Rattle.job.specs.Answer.{hostReading, forHost};
-ghost use Rattle.caldurrex.specs.Numbers.{Small, numberOf, returned, faced};
+ghost use Rattle.caldurrex.specs.Numbers.{SmallAnswer, numberOf, returned, asNumber};
 use decoder::Decoded;
 use job::JobFields;
 
@@ -13,7 +13,7 @@ pub extern "C" fn caldurrex_encode(m: u32, map: &[u8], payload: &[u8], word: &mu
     ensures { λ r. ⌜ written r (now (word .exit))
         ≡ encodeOutcome (code m (now (map .entry))) (now (payload .entry)) (now (word .entry)) ⌝ }
 {
-    codec::encode(m, map, payload, word)
+    encoder::encode(m, map, payload, word)
 }
 
 #[no_mangle]
@@ -21,12 +21,12 @@ pub extern "C" fn caldurrex_extract(m: u32, map: &[u8], word: &[u8], payload: &m
     ensures { λ r. ⌜ written r (now (payload .exit))
         ≡ extractOutcome (code m (now (map .entry))) (now (word .entry)) (now (payload .entry)) ⌝ }
 {
-    codec::extract(m, map, word, payload)
+    extractor::extract(m, map, word, payload)
 }
 
 // The answer as one number: the rows, or minus the refusal.
 fn number_of(d: Decoded) -> i32
-    requires { ⌜ Small (answerOf d) ⌝ }
+    requires { ⌜ SmallAnswer (answerOf d) ⌝ }
     ensures { λ r. ⌜ r ≡ numberOf (answerOf d) ⌝ }
 {
     match d {
@@ -49,7 +49,7 @@ pub extern "C" fn caldurrex_decode(
     scores: &mut [i32],
 ) -> i32
     ensures { λ r. ⌜ returned r (lent (now (numbers .exit)) (now (bytes .exit)) (now (inputs .exit)) (now (words .exit)) (now (scores .exit)))
-        ≡ faced (decodeOutcome (code m (now (map .entry))) list stop (now (soft .entry)) (lent (now (numbers .entry)) (now (bytes .entry)) (now (inputs .entry)) (now (words .entry)) (now (scores .entry)))) ⌝ }
+        ≡ asNumber (decodeOutcome (code m (now (map .entry))) list stop (now (soft .entry)) (lent (now (numbers .entry)) (now (bytes .entry)) (now (inputs .entry)) (now (words .entry)) (now (scores .entry)))) ⌝ }
 {
     let d = decoder::decode(
         m,

@@ -1,5 +1,3 @@
 pub mod ProgramOutput
-pub mod Block
 pub mod Records
-pub mod Texts
 pub mod Sample

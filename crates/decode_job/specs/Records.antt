@@ -2,29 +2,28 @@
 use mathlib.Core.Path.{_≡_, refl, sym, ap, ap₂, _∙_}
 use mathlib.Core.List.{List, _++_}
 use Prim.Native.Nat.{ℕ, zero, suc, _+_, _-_, _*_, _≤_, _<_}
-use native.Mathlib.Nat.{mul-le-mul}
 use native.Mathlib.Omega.{arith}
 use borrow.Author.Tests.{lt-ltb, le-ltb, ltb-false}
-use lib.ListN.{length, take, drop, replicate, length-drop}
+use lib.ListN.{length, drop, replicate, length-drop}
 use lib.Seq.{length-take-le, take-at}
 use lib.IntN.{ℤ, pos}
-use Rattle.spec.specs.Code.{mapBytes, codeTransform}
+use Rattle.spec.specs.Code.{mapBytes}
 use Rattle.spec.specs.Faults.{first, settled}
 use Rattle.spec.specs.Record.{positions, exponent, listSize, stopPosition, frameNumber, recordMap, recordSoft, fields, mapAt, softAt, shapeFaults, fieldFaults}
 use Rattle.spec.specs.Refusals.{decodeFaults}
 use Rattle.spec.specs.Outcome.{job, refusedJob, Job, Reading, reading, padded, readRefusal, readServed, readOutcome, decodeRefusal}
 use Rattle.laws.specs.FirstFault.{First, none, later, of-first, is-first, first-before, first-after, Numbered, end, next, settled-refused, settled-served, same}
 use Rattle.job.specs.SoftValues.{length-soft}
-use Rattle.job.specs.Calls.{accepted}
-use Rattle.text.specs.Output.{refusedText}
-use Rattle.text.specs.RowsText.{textOf}
-use Rattle.decode_job.specs.ProgramOutput.{tableFaults, recordFaults, recordCode, recordRows, programOutput}
-use Rattle.decode_job.specs.Block.{programRoom, decodedText, blockText}
+use Rattle.job.specs.Calls.{accepted-record}
+use Rattle.row_text.specs.Output.{refusedText}
+use Rattle.row_text.specs.RowsText.{textOf}
+use Rattle.decode_job.specs.ProgramOutput.{recordFaults, recordCode, recordRows, programOutput}
+use Rattle.block_output.specs.Block.{limitFaults, blockRoom, decodedText, blockText, tables-fit}
 
 -- what is written for the reader's answer and what it leaves
-abbrev written : Job → List ℕ → List ℤ → List ℕ
-written (job m l p f) map soft = blockText m l p f map soft
-written (refusedJob k) map soft = refusedText k
+abbrev textFor : Job → List ℕ → List ℤ → List ℕ
+textFor (job m l p f) map soft = blockText m l p f map soft
+textFor (refusedJob k) map soft = refusedText k
 
 -- the output for an input that is not too long
 unfoldable pub recordOutput : List ℕ → List ℕ
@@ -47,25 +46,22 @@ module _ (s : List ℕ) where
 
   map-long : 0 ≡ reader → length (recordMap s) ≡ mapBytes (positions s)
   map-long e =
-      let w = accepted s 128 1024 e .0 .whole in
+      let w = accepted-record s 128 1024 e .0 .whole in
       length-take-le (mapBytes (positions s)) (drop (mapAt (fields s)) s) (omega (arith, length-drop (mapAt (fields s)) s))
 
   -- a good record that the program's tables can hold is not refused by the decoder
-  decoder-accepts : 0 ≡ reader → 0 ≡ first (tableFaults (positions s) (listSize s))
-      → 0 ≡ decodeRefusal (recordCode s) (listSize s) (stopPosition s) (recordSoft s) programRoom
+  decoder-accepts : 0 ≡ reader → 0 ≡ first (limitFaults (positions s) (listSize s))
+      → 0 ≡ decodeRefusal (recordCode s) (listSize s) (stopPosition s) (recordSoft s) blockRoom
   unfolding readRefusal decodeRefusal
   decoder-accepts e g =
-      go (of-first (shapeFaults s ++ fieldFaults s 128 1024) 0 e) (of-first (tableFaults (positions s) (listSize s)) 0 g)
+      go (of-first (shapeFaults s ++ fieldFaults s 128 1024) 0 e) (of-first (limitFaults (positions s) (listSize s)) 0 g)
     where
-      go : First (shapeFaults s ++ fieldFaults s 128 1024) 0 → First (tableFaults (positions s) (listSize s)) 0
-          → 0 ≡ first (decodeFaults (recordCode s) (listSize s) (stopPosition s) (recordSoft s) programRoom)
+      go : First (shapeFaults s ++ fieldFaults s 128 1024) 0 → First (limitFaults (positions s) (listSize s)) 0
+          → 0 ≡ first (decodeFaults (recordCode s) (listSize s) (stopPosition s) (recordSoft s) blockRoom)
       go (later _ (later _ (later _ (later m (later _ (later map (later l (later p (later y f))))))))) (later n (later k none)) =
-          let small = ltb-false 64 (positions s) n in
           let few = ltb-false 4 (listSize s) k in
-          let cells : positions s * listSize s ≤ 64 * 4 = mul-le-mul {n₁ = positions s} {m₁ = listSize s} {n₂ = 64} {m₂ = 4} small few in
-          let bytes : (4 * positions s + 256) * listSize s ≤ 512 * 4
-          = mul-le-mul {n₁ = 4 * positions s + 256} {m₁ = listSize s} {n₂ = 512} {m₂ = 4} (omega arith) few in
-          is-first (decodeFaults (recordCode s) (listSize s) (stopPosition s) (recordSoft s) programRoom) 0
+          let fit = tables-fit (positions s) (listSize s) (ltb-false 64 (positions s) n) few in
+          is-first (decodeFaults (recordCode s) (listSize s) (stopPosition s) (recordSoft s) blockRoom) 0
           (later m
           (later (same (length (recordMap s)) (mapBytes (positions s)) (map-long e))
           (later map
@@ -73,23 +69,23 @@ module _ (s : List ℕ) where
           (later p
           (later (same (length (recordSoft s)) (positions s) (length-soft s (softAt s) (positions s)))
           (later y
-          (later (le-ltb 8192 (32 * (positions s * listSize s)) (omega arith))
-          (later (le-ltb 2048 ((4 * positions s + 256) * listSize s) (omega arith))
-          (later (le-ltb 256 (positions s * listSize s) (omega arith))
-          (later (le-ltb 256 (positions s * listSize s) (omega arith))
+          (later (le-ltb 8192 (32 * (positions s * listSize s)) (fit .0))
+          (later (le-ltb 2048 ((4 * positions s + 256) * listSize s) (fit .1))
+          (later (le-ltb 256 (positions s * listSize s) (fit .2))
+          (later (le-ltb 256 (positions s * listSize s) (fit .2))
           (later (le-ltb 4 (listSize s) few)
           none))))))))))))
 
   -- a record that is good so far: its output is decided by the program's tables
-  tables-decide : 0 ≡ reader → first (tableFaults (positions s) (listSize s)) ≡ first (recordFaults s)
+  tables-decide : 0 ≡ reader → first (limitFaults (positions s) (listSize s)) ≡ first (recordFaults s)
   unfolding readRefusal
   tables-decide e =
-      first-after (shapeFaults s ++ fieldFaults s 128 1024) (tableFaults (positions s) (listSize s)) 0 e reader-numbers refl (first (tableFaults (positions s) (listSize s))) refl
+      first-after (shapeFaults s ++ fieldFaults s 128 1024) (limitFaults (positions s) (listSize s)) 0 e reader-numbers refl (first (limitFaults (positions s) (listSize s))) refl
 
   good-record : 0 ≡ reader
-      → settled (first (tableFaults (positions s) (listSize s))) refusedText (decodedText (recordCode s) (listSize s) (stopPosition s) (frameNumber s) (recordSoft s)) ≡ recordOutput s
+      → settled (first (limitFaults (positions s) (listSize s))) refusedText (decodedText (recordCode s) (listSize s) (stopPosition s) (frameNumber s) (recordSoft s)) ≡ recordOutput s
   unfolding recordOutput decodedText
-  good-record e = by-number (first (tableFaults (positions s) (listSize s))) refl ∙ ap output (tables-decide e)
+  good-record e = by-number (first (limitFaults (positions s) (listSize s))) refl ∙ ap output (tables-decide e)
     where
       served : List ℕ
       served = textOf (frameNumber s) (recordRows s)
@@ -97,7 +93,7 @@ module _ (s : List ℕ) where
       output : ℕ → List ℕ
       output r = settled r refusedText served
 
-      by-number : (t : ℕ) → t ≡ first (tableFaults (positions s) (listSize s))
+      by-number : (t : ℕ) → t ≡ first (limitFaults (positions s) (listSize s))
           → settled t refusedText (decodedText (recordCode s) (listSize s) (stopPosition s) (frameNumber s) (recordSoft s)) ≡ output t
       by-number zero g = sym (settled-served refusedText served _ (decoder-accepts e g))
       by-number (suc t) g = refl
@@ -105,7 +101,7 @@ module _ (s : List ℕ) where
   -- the map and the soft values at the front of slices are those of the record
   front : 0 ≡ reader → (a b : ℕ)
       → blockText (exponent s) (listSize s) (stopPosition s) (frameNumber s) (padded 0 a (recordMap s)) (padded (pos 0) b (recordSoft s))
-      ≡ settled (first (tableFaults (positions s) (listSize s))) refusedText (decodedText (recordCode s) (listSize s) (stopPosition s) (frameNumber s) (recordSoft s))
+      ≡ settled (first (limitFaults (positions s) (listSize s))) refusedText (decodedText (recordCode s) (listSize s) (stopPosition s) (frameNumber s) (recordSoft s))
   unfolding blockText
   front e a b =
       rw (
@@ -133,7 +129,7 @@ module _ (s : List ℕ) where
             let n : k ≡ suc r = cc in
             ap refusedText n
             ∙ settled-refused refusedText (textOf (frameNumber s) (recordRows s)) (suc r) (first (recordFaults s))
-            (first-before (shapeFaults s ++ fieldFaults s 128 1024) (tableFaults (positions s) (listSize s)) (suc r) e (λ z. omega arith)) (λ z. omega arith)
+            (first-before (shapeFaults s ++ fieldFaults s 128 1024) (limitFaults (positions s) (listSize s)) (suc r) e (λ z. omega arith)) (λ z. omega arith)
 
     pub read-record : {m l p f : ℕ} → reading (job m l p f) map′ soft′ ≡ readOutcome s map soft → blockText m l p f map′ soft′ ≡ recordOutput s
     unfolding readOutcome readServed
@@ -142,7 +138,7 @@ module _ (s : List ℕ) where
         by-number : (r : ℕ) → r ≡ reader → reading (job m l p f) map′ soft′ ≡ settled r (λ j. reading (refusedJob j) map soft) (readServed s (length map) (length soft))
             → blockText m l p f map′ soft′ ≡ recordOutput s
         by-number zero e q =
-            let b = ap (λ (o : Reading). written (o .answer) (o .map) (o .soft)) q in
+            let b = ap (λ (o : Reading). textFor (o .answer) (o .map) (o .soft)) q in
             b ∙ front e (length map) (length soft) ∙ good-record e
         by-number (suc r) e q =
             let a : job m l p f ≡ refusedJob (suc r) = ap (λ (o : Reading). o .answer) q in

@@ -12,10 +12,11 @@ use Rattle.spec.specs.Record.{softFrom}
 use Rattle.spec.specs.Score.{largest, score}
 use Rattle.spec.specs.Decoder.{children, live, rows}
 use Rattle.job.specs.Sample.{sample}
+use Rattle.text.specs.BitText.{bitText}
 use Rattle.text.specs.Decimal.{digits, decimal}
-use Rattle.text.specs.Output.{bitText, refusedText, frameLine, rowLine}
-use Rattle.text.specs.RowsText.{linesOf, textOf}
-use Rattle.decode_job.specs.ProgramOutput.{inputFaults, programOutput}
+use Rattle.row_text.specs.Output.{frameLine, rowLine}
+use Rattle.row_text.specs.RowsText.{linesOf, textOf}
+use Rattle.decode_job.specs.ProgramOutput.{programFaults, programOutput}
 
 -- `frame 0 rows 2`, `0 13 0010 0110`, `1 11 0000 0000`
 pub sample-output : programOutput sample ≡
@@ -28,7 +29,7 @@ sample-output = refl
 
 -- an empty input, one that begins with 08, one of 4,097 bytes that begins so, and a good record of four positions and five rows
 abbrev pub refusalOf : List ℕ → ℕ
-refusalOf s = first (inputFaults s)
+refusalOf s = first (programFaults s)
 
 unfoldable pub inputs : List (List ℕ)
 inputs = [] ∷ (8 ∷ []) ∷ replicate 4097 8 ∷ (1 ∷ 2 ∷ 5 ∷ 3 ∷ 5 ∷ 0 ∷ 253 ∷ 255 ∷ 2 ∷ 0 ∷ 7 ∷ 0 ∷ []) ∷ []

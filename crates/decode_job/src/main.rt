@@ -1,5 +1,4 @@
 // Decodes one record from standard input and prints its rows, or why it is refused.
-mod block;
 mod output;
 
 use output::write_output;

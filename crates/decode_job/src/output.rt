@@ -1,8 +1,8 @@
 // All that the program writes for its input.
-use crate::block::write_block;
+use block_output::write_block;
 use job::Job;
 use job::read_job;
-use text::write_refused;
+use row_text::write_refused;
 ghost use Prim.Native.Nat.{_≤_};
 ghost use lib.ListN.{length};
 ghost use Rattle.text.specs.Put.{Begins};
@@ -24,7 +24,7 @@ fn write_record(input: &[u8], out: &mut [u8]) -> usize
 }
 
 // Written to the front of `out`. Returns how many bytes.
-pub fn write_output(input: &[u8], out: &mut [u8]) -> usize
+pub(crate) fn write_output(input: &[u8], out: &mut [u8]) -> usize
     requires { ⌜ 645 ≤ length (now out) ⌝ }
     ensures { λ r. ⌜ Begins (programOutput (now (input .entry))) (now (out .entry)) r (now (out .exit)) ⌝ }
 {

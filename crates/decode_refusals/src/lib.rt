@@ -1,64 +1,39 @@
 // The refusals of a decoder call, 1 to 10 in turn, decided before anything is written.
 ghost use mathlib.Core.Path.{_≡_};
-ghost use Prim.Native.Nat.{_*_, _≤_};
-ghost use lib.ListN.{length};
+ghost use mathlib.Core.Bool.{_||_};
+ghost use Prim.Native.Nat.{_≤_};
+ghost use lib.Dec.{ltb};
 ghost use Rattle.spec.specs.Code.{code};
-ghost use Rattle.spec.specs.Faults.{first, some};
-ghost use Rattle.spec.specs.Refusals.{Room, room, tooLarge, runFaults, tableFaults, decodeFaults};
-use codec::code_refusal;
-use codec::size;
-
-// The product of two numbers that are not large.
-pub fn times(a: usize, b: usize) -> usize
-    requires { ⌜ (a ≤ 65536) × (b ≤ 65536) ⌝ }
-    ensures { λ r. ⌜ (r ≡ a * b) × (r ≤ 4294967296) ⌝ }
-{
-    a * b
-}
-
-// A soft value that is out of range.
-fn too_large(y: i16) -> bool
-    ensures { λ r. ⌜ r ≡ tooLarge y ⌝ }
-{
-    if y < -2047 {
-        return true;
-    }
-    y > 2047
-}
-
-fn some_too_large(soft: &[i16]) -> bool
-    ensures { λ r. ⌜ r ≡ some tooLarge (now (soft .entry)) ⌝ }
-{
-    let mut i = 0;
-    while i < soft.len() {
-        if too_large(soft[i]) {
-            return true;
-        }
-        i += 1;
-    }
-    false
-}
+ghost use Rattle.spec.specs.Faults.{first};
+ghost use Rattle.spec.specs.Refusals.{room, runFaults, tableFaults, decodeFaults};
+use code::code_refusal;
+use code::size;
+use ranges::range_refusal;
+use ranges::soft_refusal;
+use slices::times;
 
 // Refusals 4 to 7, or 0.
 fn run_refusal(n: usize, l: u32, p: u32, soft: &[i16]) -> u32
     ensures { λ r. ⌜ r ≡ first (runFaults n l p (now (soft .entry))) ⌝ }
 {
-    if l < 1 {
-        return 4;
+    let range = range_refusal(n, l, p);
+    if range != 0 {
+        return range;
     }
-    if l > 32 {
-        return 4;
+    soft_refusal(n, soft)
+}
+
+// An output has too few places: l rows of n bytes are `area` bytes.
+fn outputs_short(area: usize, l: usize, inputs: usize, words: usize, scores: usize) -> bool
+    ensures { λ r. ⌜ r ≡ (ltb inputs area || (ltb words area || ltb scores l)) ⌝ }
+{
+    if inputs < area {
+        return true;
     }
-    if n < p as usize {
-        return 5;
+    if words < area {
+        return true;
     }
-    if soft.len() != n {
-        return 6;
-    }
-    if some_too_large(soft) {
-        return 7;
-    }
-    0
+    scores < l
 }
 
 // Refusals 8 to 10, or 0, from the lengths of what is lent.
@@ -75,20 +50,17 @@ fn table_refusal(
     ensures { λ r. ⌜ r ≡ first (tableFaults n l (room numbers bytes inputs words scores)) ⌝ }
 {
     let area = times(n, l);
-    if numbers < 32 * area {
+    let small = times(4 * n + 256, l);
+    let few_numbers = numbers < 32 * area;
+    let few_bytes = bytes < small;
+    let few_places = outputs_short(area, l, inputs, words, scores);
+    if few_numbers {
         return 8;
     }
-    let small = times(4 * n + 256, l);
-    if bytes < small {
+    if few_bytes {
         return 9;
     }
-    if inputs < area {
-        return 10;
-    }
-    if words < area {
-        return 10;
-    }
-    if scores < l {
+    if few_places {
         return 10;
     }
     0

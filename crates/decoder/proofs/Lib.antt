@@ -1,10 +1,3 @@
-mod Choosing
-mod Parents
-mod Fitting
-mod Stepping
-mod Advancing
-mod Starting
-mod Looping
 mod Serving
 mod Outputs
 mod Refusing

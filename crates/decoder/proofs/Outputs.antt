@@ -14,8 +14,9 @@ use Rattle.live.specs.declared.Live.{Live}
 use Rattle.rows.specs.Trace.{InputsWritten}
 use Rattle.rows.specs.Words.{WordsWritten}
 use Rattle.rows.specs.DecodedRows.{BlockWritten, rows-are}
-use Rattle.decoder.specs.Running.{Running, prefixAt}
-use Rattle.decoder.specs.Serving.{ServeFits, Stopped, BitsWritten, CostsWritten, CostsFit, Served}
+use Rattle.block_rows.specs.BlockRows.{BitsWritten, CostsWritten, CostsFit}
+use Rattle.positions.specs.Running.{Running, prefixAt}
+use Rattle.decoder.specs.Serving.{ServeFits, Stopped, Served}
 use Rattle.decoder.proofs.Serving.{small}
 
 module _ (m l p n h : ℕ) (map : List ℕ) (soft : List ℤ) (r : Room) (f : ServeFits m l p n h map soft r) where

@@ -1,6 +1,5 @@
 -- A call whose refusals do not apply has what it takes to be served.
 use mathlib.Core.Path.{_≡_, refl, sym, _∙_}
-use mathlib.Core.Bool.{not}
 use mathlib.Core.List.{List}
 use Prim.Native.Nat.{ℕ, _*_, _/_, _≤_, _^_}
 use native.Mathlib.Omega.{arith}

@@ -5,24 +5,21 @@ use Prim.Native.Nat.{ℕ, suc, _+_, _-_, _*_, _/_, _≤_, _^_}
 use native.Mathlib.Omega.{arith}
 use native.Mathlib.Nat.{mul-assoc, mul-comm, add-mul, mul-le-mul, mul-le-mul-left, le-mul-of-pos-right, add-zero}
 use lib.ListN.{length, replicate}
-use Rattle.fill.specs.Fill.{filledFrom}
+use Rattle.slices.specs.Fill.{filledFrom}
 use lib.IntN.{ℤ}
-use lib.Pow.{pow-mono}
 use Rattle.spec.specs.Refusals.{Room, room}
 use Rattle.laws.specs.Accepted.{size-small}
 use Rattle.laws.specs.MapBits.{enough-bits}
 use Rattle.tables.specs.Tab.{slotStart}
 use Rattle.tables.specs.Start.{StartSize}
-use Rattle.decoder.specs.Running.{Sizes, RunFits}
-use Rattle.decoder.specs.Serving.{ServeFits, BitsFit}
+use Rattle.block_rows.specs.BlockRows.{BitsFit}
+use Rattle.positions.specs.Running.{BlockSizes, RunFits}
+use Rattle.decoder.specs.Serving.{ServeFits}
 
 -- a slice set to 0 from its first place on
 pub zeroed : (s : List ℕ) → filledFrom 0 0 s ≡ replicate (length s) 0
 unfolding filledFrom
 zeroed s = let e : length s - 0 ≡ length s = omega arith in ap (λ (k : ℕ). replicate k 0) e
-
-pub n-small : (m n : ℕ) → m ≤ 10 → n ≡ 2 ^ m → n ≤ 1024
-n-small m n h e = omega (arith, pow-mono {i = m} {j = 10} h)
 
 module _ (m l p n h : ℕ) (map : List ℕ) (soft : List ℤ) (r : Room) (f : ServeFits m l p n h map soft r) where
   pub exponent : m ≡ suc (suc (m - 2))
@@ -42,7 +39,7 @@ module _ (m l p n h : ℕ) (map : List ℕ) (soft : List ℤ) (r : Room) (f : Se
   pub small : n ≤ 1024
   small = omega (arith, size-small (f .accepts), f .size-is)
 
-  pub sizes-of : Sizes (m - 2) l h n
+  sizes-of : BlockSizes (m - 2) l h n
   unfolding slotStart
   sizes-of = record {
     deepest = omega (arith, f .accepts .high);
@@ -56,11 +53,11 @@ module _ (m l p n h : ℕ) (map : List ℕ) (soft : List ℤ) (r : Room) (f : Se
   wide : n ≤ n * l
   wide = le-mul-of-pos-right n (f .some-path)
 
-  pub words-there : 16 * (h + 2 ^ (m - 2)) ≤ r .numbers
+  words-there : 16 * (h + 2 ^ (m - 2)) ≤ r .numbers
   words-there = omega (arith, whole, twice, wide, f .numbers)
 
   -- the bits, the history up to any stop position and 32 bytes more
-  pub bytes-there : (k : ℕ) → k ≤ n → 3 * h + l * k + 32 ≤ r .bytes
+  bytes-there : (k : ℕ) → k ≤ n → 3 * h + l * k + 32 ≤ r .bytes
   bytes-there k hk =
       let a : l * k ≤ l * n = mul-le-mul-left l hk in
       let c : l * n ≡ n * l = mul-comm l n in
@@ -68,7 +65,7 @@ module _ (m l p n h : ℕ) (map : List ℕ) (soft : List ℤ) (r : Room) (f : Se
       let e : 4 * n * l ≡ 4 * (n * l) = mul-assoc 4 n l in
       omega (arith, twice, f .bytes, f .some-path)
 
-  pub flags-there : n ≤ 8 * length map
+  flags-there : n ≤ 8 * length map
   flags-there = omega (arith, enough-bits (2 ^ m) map (f .accepts .bytes), f .size-is)
 
   pub start-fits : (t : List ℕ) → r .numbers ≤ length t → StartSize (m - 2) (n / 4) l h t soft

@@ -4,9 +4,9 @@ ghost use Rattle.spec.specs.Code.{code};
 ghost use Rattle.spec.specs.Outcome.{decoding, lent, decodeOutcome};
 ghost use Rattle.decoder.specs.Answers.{answerOf};
 use crate::serve::serve;
-use codec::size;
+use code::size;
 use decode_refusals::decode_refusal;
-use decode_refusals::times;
+use slices::times;
 
 pub enum Decoded {
     Rows(u32),

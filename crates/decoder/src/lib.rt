@@ -1,8 +1,5 @@
-// The list decoder: one position after the other for all live paths, in tables that the caller lends.
-mod block;
+// The list decoder: a call is refused, or served by the positions of its block and the rows that they lead to.
 mod call;
-mod history;
-mod position;
 mod serve;
 
 pub use call::Decoded;

@@ -1,21 +1,17 @@
 // A call that is served: the live list at the stop position, its rows, and the tables set to 0.
 ghost use mathlib.Core.Path.{_≡_};
-ghost use Prim.Native.Nat.{_+_, _*_, _≤_};
+ghost use Prim.Native.Nat.{_*_};
 ghost use lib.ListN.{length, replicate};
 ghost use Rattle.spec.specs.Code.{code};
 ghost use Rattle.spec.specs.Refusals.{room};
 ghost use Rattle.spec.specs.Outcome.{decoding, rowCount, lent};
-ghost use Rattle.decoder.specs.Serving.{ServeFits, Stopped, CostsRead, BitsWritten, BitsFit, CostsWritten, CostsFit, Served};
-use crate::block::positions;
-use decode_refusals::times;
-use fill::fill_bytes;
-use fill::fill_words;
+ghost use Rattle.decoder.specs.Serving.{ServeFits, Stopped, Served};
+use block_rows::write_bits;
+use block_rows::write_costs;
 use live::Live;
-use live::entry_cost;
-use rows::inputs::write_inputs;
-use rows::scores::magnitude;
-use rows::scores::write_scores;
-use rows::words::write_words;
+use positions::positions;
+use slices::fill_bytes;
+use slices::fill_words;
 use tables::start::start;
 
 // The live list at stop position p.
@@ -40,52 +36,6 @@ fn decode_list(
     positions(t, b, map, p, deep, l, h, n)
 }
 
-// The costs of the first count entries.
-fn read_costs(code: &[u64; 33], count: usize, costs: &mut [u32; 32])
-    requires { ⌜ (count ≤ 32) × (length (now code) ≡ 33) × (length (now costs) ≡ 32) ⌝ }
-    ensures { λ _. ⌜ CostsRead count (now (code .entry)) (now (costs .exit)) ⌝ }
-{
-    let mut r = 0;
-    while r < count {
-        costs[r] = entry_cost(code[r]);
-        r += 1;
-    }
-}
-
-// The input rows and their words.
-fn write_bits(
-    inputs: &mut [u8],
-    words: &mut [u8],
-    b: &[u8],
-    count: usize,
-    m: u32,
-    l: usize,
-    p: usize,
-    n: usize,
-    h: usize,
-)
-    requires { ⌜ BitsFit m l p n h count (length (now inputs)) (length (now words)) (length (now b)) ⌝ }
-    ensures { λ _. ⌜ BitsWritten m l p n h count (length (now (inputs .entry))) (length (now (words .entry))) (now (b .entry)) (now (inputs .exit)) (now (words .exit)) ⌝ }
-{
-    let k = 3 * h;
-    let past = times(l, p);
-    write_inputs(inputs, &b[k..], l, p, past, n, count);
-    write_words(words, inputs, m, n, l, count);
-}
-
-// The scores of the entries of s.
-fn write_costs(scores: &mut [i32], soft: &[i16], s: Live)
-    requires { ⌜ CostsFit (length (now scores)) (now soft) s ⌝ }
-    ensures { λ _. ⌜ CostsWritten (length (now (scores .entry))) (now (soft .entry)) s (now (scores .exit)) ⌝ }
-{
-    let code = s.code;
-    let count = s.count;
-    let mut costs = [0u32; 32];
-    read_costs(&code, count, &mut costs);
-    let total = magnitude(soft);
-    write_scores(scores, &costs, total, count);
-}
-
 // Both tables set to 0 to their last place.
 fn clear_tables(t: &mut [u32], b: &mut [u8])
     ensures { λ _. ⌜ (now (t .exit) ≡ replicate (length (now (t .entry))) 0) × (now (b .exit) ≡ replicate (length (now (b .entry))) 0) ⌝ }
@@ -95,7 +45,7 @@ fn clear_tables(t: &mut [u32], b: &mut [u8])
 }
 
 // The row count; then the outputs hold the rows of the paper decoder and the tables are 0.
-pub fn serve(
+pub(crate) fn serve(
     m: u32,
     map: &[u8],
     l: usize,

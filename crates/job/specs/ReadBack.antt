@@ -17,7 +17,7 @@ use Rattle.spec.specs.Record.{twoAt, signed16, softFrom, fields, positions, lis
 use Rattle.spec.specs.Outcome.{padded, reading, job, readRefusal, readServed, readOutcome}
 use Rattle.laws.specs.FirstFault.{none, later, is-first, inside, same}
 use Rattle.job.specs.Calls.{same-reading, read-served}
-use Rattle.job.specs.SoftValues.{signed-low, signed-high}
+use Rattle.job_fields.specs.Signed.{signed-low, signed-high}
 use Rattle.job.specs.RecordOf.{Field, absent, present, valueOr, Content, lowFirst, fieldBit, fieldBytes, sixteenBits, softBytes, headOf, recordOf}
 
 -- what a record may say: 01's ranges

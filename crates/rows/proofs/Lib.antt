@@ -2,5 +2,4 @@ mod ReadBack
 mod Filling
 mod InputRows
 mod WordRows
-pub mod Signs
 mod ScoreRows

@@ -38,7 +38,7 @@ magnitude-none soft i h = ap magnitude (drop-of-length-le soft h)
 -- ---- scores
 module _ {A : Type 0} (z : A) where
   -- a store at the first place behind a list
-  pub padded-set : (N : ℕ) (xs : List A) (x : A) (i : ℕ) → length xs ≡ i → i < N → set (padded z N xs) i x ≡ padded z N (xs ++ x ∷ [])
+  padded-set : (N : ℕ) (xs : List A) (x : A) (i : ℕ) → length xs ≡ i → i < N → set (padded z N xs) i x ≡ padded z N (xs ++ x ∷ [])
   padded-set N xs x i e h =
       let behind : N - length xs ≡ suc (N - length (xs ++ x ∷ [])) = omega (arith, length-append xs (x ∷ [])) in
       rw (behind, set-at xs z (replicate (N - length (xs ++ x ∷ [])) z) x i e) (sym (append-snoc xs x (replicate (N - length (xs ++ x ∷ [])) z)))

@@ -11,7 +11,7 @@ use Rattle.spec.specs.Outcome.{concat}
 use Rattle.laws.specs.BitLaws.{bits-drop}
 use Rattle.laws.specs.MapBits.{bits-take}
 use Rattle.transform.specs.Word.{Word}
-use Rattle.rows.specs.Blocks.{rowsOf, rows-more, concat-more}
+use Rattle.rows.specs.Blocks.{rowsOf, rows-of-more, concat-more}
 use Rattle.rows.specs.Words.{WordsFit, WordsWritten}
 use Rattle.rows.proofs.Filling.{Filling, rows-fit, next-inside, filling-more}
 
@@ -53,7 +53,7 @@ module _ {m n l count N : ℕ} {inputs : List ℕ} (f : WordsFit m n l count N i
           let here : take k (drop at inputs) ≡ take n (drop (n * r) inputs) = rw (ek, c .at-is) in
           let next : wordRows m n inputs (r + 1) ≡ wordRows m n inputs r ++ new =
           ap (λ (j : ℕ). wordRows m n inputs j) (add-one r)
-          ∙ ap (λ (xs : List (List ℕ)). concat (map (transform m) xs)) (rows-more n r inputs)
+          ∙ ap (λ (xs : List (List ℕ)). concat (map (transform m) xs)) (rows-of-more n r inputs)
           ∙ concat-more (transform m) (rowsOf n r inputs) (take n (drop (n * r) inputs))
           ∙ ap (λ (t : List ℕ). wordRows m n inputs r ++ t) (sym (word ∙ ap (transform m) here)) in
           filling-more c words-room h k ek new (wordRows m n inputs (r + 1)) kept next

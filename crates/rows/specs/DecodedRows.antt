@@ -1,11 +1,10 @@
 -- The rows of the paper decoder are what the three calls leave in the lent outputs.
 use mathlib.Core.Path.{_≡_, refl, sym, ap, ap₂, _∙_}
 use mathlib.Core.List.{List, [], _∷_, map, map-map}
-use Prim.Native.Nat.{ℕ, _-_, _*_, _<_, _≤_}
+use Prim.Native.Nat.{ℕ, _-_, _<_, _≤_}
 use native.Mathlib.Omega.{arith}
 use lib.ListN.{length, take, getD, replicate, length-map}
 use lib.Seq.{length-take-le, getD-take, ext-getD}
-use lib.Pow.{pow-mono}
 use lib.IntN.{ℤ, pos}
 use Rattle.spec.specs.Code.{Code, size, codeTransform}
 use Rattle.spec.specs.Score.{score}
@@ -13,13 +12,12 @@ use Rattle.spec.specs.Decoder.{Row, live, rowOf, rows}
 use Rattle.spec.specs.Refusals.{Room}
 use Rattle.spec.specs.Outcome.{padded, concat, rowCount, lent, decoding, decodedRows}
 use Rattle.laws.specs.Cost.{cost, magnitude}
-use Rattle.laws.specs.Bounds.{cost-le}
 use Rattle.laws.specs.ScoreCost.{score-is}
 use Rattle.laws.specs.ListCost.{All, none, more, Long, live-long, all-at}
-use Rattle.rows.specs.Blocks.{Wide, filledRow, rowsOf, rows-back, wide-filled, getD-map}
+use Rattle.rows.specs.Blocks.{AllWide, filledRow, rowsOf, rows-back, wide-filled, getD-map}
 use Rattle.rows.specs.Trace.{Traced, InputsWritten, prefixesBack, prefixes-back}
 use Rattle.rows.specs.Words.{WordsWritten}
-use Rattle.rows.specs.Scores.{scoreFrom, ScoresFit, ScoresWritten}
+use Rattle.rows.specs.Scores.{scoreFrom, ScoresWritten}
 
 -- ---- lists
 module _ {A : Type 0} {P : A → Type 0} where
@@ -33,20 +31,8 @@ abbrev pub prefixes : Code → List ℤ → ℕ → ℕ → List (List ℕ)
 prefixes c y l p = live (codeTransform c) c y l p
 
 -- costs of the live prefixes, by rank
-abbrev pub CostsAre : Code → List ℤ → ℕ → ℕ → List ℕ → Type 0
-CostsAre c y l p costs = (r : ℕ) → r < length (prefixes c y l p) → getD costs r 0 ≡ cost (c .m) y (getD (prefixes c y l p) r [])
-
--- what the call that writes the scores asks for
-pub scores-fit : (c : Code) (y : List ℤ) (l p count total N : ℕ) (costs : List ℕ)
-    → c .m ≤ 10 → length y ≡ size c → length (prefixes c y l p) ≡ count → count ≤ 32 → count ≤ N → length costs ≡ 32
-    → total ≡ magnitude y → total ≤ 2047 * length y → CostsAre c y l p costs → ScoresFit total count N costs
-scores-fit c y l p count total N costs most ey ec few room there et small are = record {
-  small = omega (arith, pow-mono {i = c .m} {j = 10} most);
-  few = few;
-  room = room;
-  there = there;
-  below = λ r h. omega (arith, are r (omega arith), cost-le (c .m) y (getD (prefixes c y l p) r []));
-}
+abbrev pub RowCosts : Code → List ℤ → ℕ → ℕ → List ℕ → Type 0
+RowCosts c y l p costs = (r : ℕ) → r < length (prefixes c y l p) → getD costs r 0 ≡ cost (c .m) y (getD (prefixes c y l p) r [])
 
 -- A block decoded up to p: its live prefixes lie in the history g and have these costs, and the three calls have written its outputs.
 pub record BlockWritten (c : Code) (y : List ℤ) (l p count total : ℕ) (g costs inputs words : List ℕ) (scores : List ℤ) (room : Room) : Type 0 where
@@ -56,7 +42,7 @@ pub record BlockWritten (c : Code) (y : List ℤ) (l p count total : ℕ) (g cos
   pub few : length (prefixes c y l p) ≡ count
   pub traced : Traced l p g (prefixes c y l p)
   pub there : count ≤ length costs
-  pub costs-are : CostsAre c y l p costs
+  pub costs-are : RowCosts c y l p costs
   pub total-is : total ≡ magnitude y
   pub inputs-left : InputsWritten l p (size c) count (room .inputs) g inputs
   pub words-left : WordsWritten (c .m) (size c) count (room .words) inputs words
@@ -89,7 +75,7 @@ module _ {c : Code} {y : List ℤ} {l p count total : ℕ} {g costs inputs words
   cut : rowsOf (size c) count inputs ≡ filled
   unfolding ps filled
   cut =
-      let long : Wide (size c) filled = wide-filled p (size c) ps (b .stop) (λ k h. all-at [] (live-long (codeTransform c) c y l p) k h) in
+      let long : AllWide (size c) filled = wide-filled p (size c) ps (b .stop) (λ k h. all-at [] (live-long (codeTransform c) c y l p) k h) in
       let few : count ≡ length filled = sym (length-map ps (filledRow (size c)) ∙ b .few) in
       rw (few, held) (rows-back (size c) filled (replicate (room .inputs - length (concat filled)) 0) long)
 

@@ -8,7 +8,7 @@ ghost use Rattle.spec.specs.Faults.{some};
 ghost use Rattle.spec.specs.Refusals.{tooLarge};
 ghost use Rattle.laws.specs.Cost.{magnitude};
 ghost use Rattle.rows.specs.Scores.{scoreFrom, ScoresFit, ScoresWritten};
-use fill::fill_scores;
+use slices::fill_scores;
 
 // The magnitude of one soft value.
 fn magnitude_of(y: i16) -> u32

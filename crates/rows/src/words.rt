@@ -4,27 +4,16 @@ ghost use lib.ListN.{length};
 ghost use Rattle.spec.specs.Transform.{transform};
 ghost use Rattle.transform.specs.Word.{Word};
 ghost use Rattle.rows.specs.Words.{WordsFit, WordsWritten};
-use fill::fill_bytes;
+use slices::copy;
+use slices::fill_bytes;
 use transform::transform_word;
-
-// All of input, in row.
-fn copy(row: &mut [u8], input: &[u8])
-    requires { ⌜ length (now row) ≡ length (now input) ⌝ }
-    ensures { λ _. ⌜ now (row .exit) ≡ now (input .entry) ⌝ }
-{
-    let mut i = 0;
-    while i < input.len() {
-        row[i] = input[i];
-        i += 1;
-    }
-}
 
 // The word of one input row.
 fn put_word(row: &mut [u8], input: &[u8], m: u32)
     requires { ⌜ (length (now row) ≡ length (now input)) × Word m (now input) ⌝ }
     ensures { λ _. ⌜ now (row .exit) ≡ transform m (now (input .entry)) ⌝ }
 {
-    copy(row, input);
+    copy(input, row);
     transform_word(row, m);
 }
 

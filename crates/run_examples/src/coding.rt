@@ -1,21 +1,39 @@
 // Calls of the encoder and the extractor: what they returned, and their output.
-use crate::say::say;
+use crate::lines::least;
+use crate::lists::read_bytes;
+use crate::lists::read_fields;
 use crate::say::say_bytes;
 use crate::say::say_number;
+use encoder::encode;
+use extractor::extract;
+ghost use Prim.Native.Nat.{_≤_};
 
-fn say_answer(text: &[u8], answer: u32, output: &[u8]) {
-    say(text);
-    say_number(b": returned ", answer);
+fn answer(extracts: bool, m: u32, map: &[u8], given: &[u8], output: &mut [u8]) -> u32 {
+    if extracts {
+        return extract(m, map, given, output);
+    }
+    encode(m, map, given, output)
+}
+
+// With an output of at most 16 bytes.
+fn code(extracts: bool, m: u32, map: &[u8], given: &[u8], len: usize)
+    requires { ⌜ len ≤ 16 ⌝ }
+{
+    let mut space = [5u8; 16];
+    let output: &mut [u8] = &mut space[..len];
+    let k = answer(extracts, m, map, given, output);
+    say_number(b": returned ", k);
     say_bytes(b", output ", output);
-    say(b"\n");
 }
 
-pub(crate) fn encode(text: &[u8], m: u32, map: &[u8], payload: &[u8], word: &mut [u8]) {
-    let answer = codec::encode(m, map, payload, word);
-    say_answer(text, answer, word);
-}
-
-pub(crate) fn extract(text: &[u8], m: u32, map: &[u8], word: &[u8], payload: &mut [u8]) {
-    let answer = codec::extract(m, map, word, payload);
-    say_answer(text, answer, payload);
+// m, the output's length, at most 2 bytes of map and at most 16 of payload or word.
+pub(crate) fn code_line(extracts: bool, line: &[u8], at: usize) {
+    let mut fields = [0u32; 2];
+    let mut map = [0u8; 2];
+    let mut given = [0u8; 16];
+    let from = read_fields(line, at, &mut fields);
+    let a = read_bytes(line, from, &mut map);
+    let b = read_bytes(line, a.at, &mut given);
+    let len = least(fields[1], 16);
+    code(extracts, fields[0], &map[..a.len], &given[..b.len], len);
 }

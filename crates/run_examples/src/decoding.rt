@@ -1,94 +1,109 @@
-// Calls of the decoder for up to 16 positions and one row: the refusal, or the rows.
+// Calls of the decoder: the refusal, or the rows.
+use crate::lines::least;
+use crate::lists::read_bytes;
+use crate::lists::read_fields;
+use crate::lists::read_soft;
 use crate::say::say;
 use crate::say::say_bytes;
-use crate::say::say_last;
 use crate::say::say_number;
 use crate::say::say_signed;
 use decoder::Decoded;
+use decoder::decode;
 ghost use mathlib.Core.Path.{_≡_};
 ghost use Prim.Native.Nat.{_≤_};
 ghost use lib.ListN.{length};
 
+fn say_score(scores: &[i32]) {
+    say(b", score ");
+    if scores.len() > 0 {
+        say_signed(scores[0]);
+    }
+}
+
 // The number of rows, all that the rows lent hold, and the first score.
-fn say_rows(rows: u32, inputs: &[u8], words: &[u8], score: i32) {
+fn say_rows(rows: u32, inputs: &[u8], words: &[u8], scores: &[i32]) {
     say_number(b": rows ", rows);
     say_bytes(b", inputs ", inputs);
     say_bytes(b", words ", words);
-    say_score(score);
+    say_score(scores);
 }
 
-fn say_score(score: i32) {
-    say(b", score ");
-    say_signed(score);
-    say(b"\n");
+fn say_decoded(answer: Decoded, inputs: &[u8], words: &[u8], scores: &[i32]) {
+    match answer {
+        Decoded::Refused(k) => say_number(b": refused ", k),
+        Decoded::Rows(rows) => say_rows(rows, inputs, words, scores),
+    }
 }
 
-// What is lent: words of the number tables, bytes of the byte tables, bytes of the input rows and of the code rows.
-pub struct Lent {
+// What a call is given in numbers: m, l and p, and how much is lent of the number tables, the byte tables, the input rows, the code rows
+// and the scores.
+pub(crate) struct Asked {
+    pub m: u32,
+    pub l: u32,
+    pub p: u32,
     pub numbers: usize,
     pub bytes: usize,
     pub inputs: usize,
     pub words: usize,
+    pub scores: usize,
 }
 
-// Enough for n = 4 and one row, and no more.
-pub(crate) fn enough() -> Lent
-    ensures { λ r. ⌜ (r .numbers ≡ 128) × (r .bytes ≡ 272) × (r .inputs ≡ 4) × (r .words ≡ 4) ⌝ }
+fn read_asked(fields: &[u32]) -> Asked
+    requires { ⌜ length (now fields) ≡ 8 ⌝ }
+    ensures { λ r. ⌜ (r .numbers ≤ 512) × (r .bytes ≤ 320) × (r .inputs ≤ 16) × (r .words ≤ 16) × (r .scores ≤ 1) ⌝ }
 {
-    Lent {
-        numbers: 128,
-        bytes: 272,
-        inputs: 4,
-        words: 4,
+    Asked {
+        m: fields[0],
+        l: fields[1],
+        p: fields[2],
+        numbers: least(fields[3], 512),
+        bytes: least(fields[4], 320),
+        inputs: least(fields[5], 16),
+        words: least(fields[6], 16),
+        scores: least(fields[7], 1),
     }
 }
 
-fn decode_in(
-    text: &[u8],
-    m: u32,
-    map: &[u8],
-    l: u32,
-    p: u32,
-    soft: &[i16],
-    numbers: &mut [u32],
-    bytes: &mut [u8],
-    inputs: &mut [u8],
-    words: &mut [u8],
-    scores: &mut [i32],
-)
-    requires { ⌜ 1 ≤ length (now scores) ⌝ }
+fn decode_asked(map: &[u8], soft: &[i16], x: Asked)
+    requires { ⌜ (x .numbers ≤ 512) × (x .bytes ≤ 320) × (x .inputs ≤ 16) × (x .words ≤ 16) × (x .scores ≤ 1) ⌝ }
 {
-    let answer = decoder::decode(m, map, l, p, soft, numbers, bytes, inputs, words, scores);
-    say(text);
-    match answer {
-        Decoded::Refused(k) => say_last(b": refused ", k),
-        Decoded::Rows(rows) => say_rows(rows, inputs, words, scores[0]),
-    }
-}
-
-pub(crate) fn decode(text: &[u8], m: u32, map: &[u8], l: u32, p: u32, soft: &[i16], lent: Lent)
-    requires { ⌜ (lent .numbers ≤ 512) × (lent .bytes ≤ 320) × (lent .inputs ≤ 16) × (lent .words ≤ 16) ⌝ }
-{
-    let a = lent.numbers;
-    let b = lent.bytes;
-    let c = lent.inputs;
-    let d = lent.words;
-    let mut numbers = [5u32; 512];
-    let mut bytes = [5u8; 320];
-    let mut inputs = [5u8; 16];
-    let mut words = [5u8; 16];
-    let mut scores = [5i32; 1];
-    decode_in(
-        text,
-        m,
+    let a = x.numbers;
+    let b = x.bytes;
+    let c = x.inputs;
+    let d = x.words;
+    let e = x.scores;
+    let mut number_tables = [5u32; 512];
+    let mut byte_tables = [5u8; 320];
+    let mut input_rows = [5u8; 16];
+    let mut code_rows = [5u8; 16];
+    let mut row_scores = [5i32; 1];
+    let numbers: &mut [u32] = &mut number_tables[..a];
+    let bytes: &mut [u8] = &mut byte_tables[..b];
+    let inputs: &mut [u8] = &mut input_rows[..c];
+    let words: &mut [u8] = &mut code_rows[..d];
+    let scores: &mut [i32] = &mut row_scores[..e];
+    let answer = decode(
+        x.m,
         map,
-        l,
-        p,
+        x.l,
+        x.p,
         soft,
-        &mut numbers[..a],
-        &mut bytes[..b],
-        &mut inputs[..c],
-        &mut words[..d],
-        &mut scores,
+        numbers,
+        bytes,
+        inputs,
+        words,
+        scores,
     );
+    say_decoded(answer, inputs, words, scores);
+}
+
+// The numbers, at most 2 bytes of map and at most 16 soft values.
+pub(crate) fn decode_line(line: &[u8], at: usize) {
+    let mut fields = [0u32; 8];
+    let mut map = [0u8; 2];
+    let mut soft = [0i16; 16];
+    let from = read_fields(line, at, &mut fields);
+    let a = read_bytes(line, from, &mut map);
+    let b = read_soft(line, a.at, &mut soft);
+    decode_asked(&map[..a.len], &soft[..b], read_asked(&fields));
 }

@@ -1,13 +1,48 @@
-// Runs the examples of the rules that carry no star, and prints what each call gave. Everything lent holds 5 before the call.
+// Makes the calls of its input, one a line, and prints what each gave. A line is a description, a colon, the call's name and what the
+// call is given: labels and numbers, one space before each. The description is printed in front of the answer, and a line with no colon
+// is printed alone. Everything lent holds 5 before the call.
 mod coding;
 mod decoding;
-mod large;
-mod reading;
-mod refusals;
+mod lines;
+mod lists;
 mod say;
-mod served;
+
+use coding::code_line;
+use decoding::decode_line;
+use lines::byte_at;
+use lines::find;
+use lines::word_end;
+use say::say;
+
+// The second letter tells the names encode, extract and decode apart.
+fn run_call(call: &[u8]) {
+    let letter = byte_at(call, 3);
+    let at = word_end(call, 1);
+    if letter == b'e' {
+        decode_line(call, at);
+    } else if letter != 0 {
+        code_line(letter == b'x', call, at);
+    }
+}
+
+fn run_line(line: &[u8]) {
+    let colon = find(line, 0, b':');
+    say(&line[..colon]);
+    run_call(&line[colon..]);
+    say(b"\n");
+}
+
+fn run(text: &[u8]) {
+    let mut at = 0;
+    while at < text.len() {
+        let end = find(text, at, b'\n');
+        run_line(&text[at..end]);
+        at = end + 1;
+    }
+}
 
 fn main() {
-    served::run();
-    refusals::run();
+    let mut text = [0u8; 8192];
+    let len = io::read_full(0, &mut text);
+    run(&text[..len]);
 }

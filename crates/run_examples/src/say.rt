@@ -1,5 +1,4 @@
 // Texts and numbers, printed.
-ghost use mathlib.Core.Path.{_≡_};
 ghost use Prim.Native.Nat.{_≤_};
 ghost use lib.ListN.{length};
 
@@ -11,12 +10,6 @@ pub(crate) fn say(text: &[u8]) {
 pub(crate) fn say_number(text: &[u8], x: u32) {
     io::write_all(1, text);
     io::print_decimal(1, x as u64);
-}
-
-// A text and a number, to the end of the line.
-pub(crate) fn say_last(text: &[u8], x: u32) {
-    say_number(text, x);
-    io::write_all(1, b"\n");
 }
 
 fn say_part(out: &[u8], len: usize)
@@ -48,22 +41,4 @@ fn say_all(bytes: &[u8]) {
 pub(crate) fn say_bytes(text: &[u8], bytes: &[u8]) {
     say(text);
     say_all(bytes);
-}
-
-fn widen(x: i16) -> i32 {
-    x as i32
-}
-
-fn say_soft(x: i16) {
-    say(b" ");
-    say_signed(widen(x));
-}
-
-// A space and a number for each soft value.
-pub(crate) fn say_softs(soft: &[i16]) {
-    let mut i = 0;
-    while i < soft.len() {
-        say_soft(soft[i]);
-        i += 1;
-    }
 }

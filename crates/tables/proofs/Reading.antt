@@ -17,9 +17,9 @@ use Rattle.laws.specs.Cells.{Cell, Good, good-ext, peek, peek-is}
 use Rattle.windows.specs.Op.{tabAt, kindB, Wrote}
 use Rattle.tables.specs.Tab.{slotStart}
 use Rattle.tables.specs.Right.{cellIn, AllRight}
-use Rattle.tables.specs.Walk.{slotW, slotO, Tables, Down, grown, fieldAt}
-use Rattle.tables.specs.Top.{topCost, FitTop}
-use Rattle.tables.proofs.Places.{slot-at, slot-deep, slot-twice}
+use Rattle.tables.specs.Walk.{slotW, slotO, Down, grown, fieldAt}
+use Rattle.tables.specs.Top.{topCost}
+use Rattle.tables.proofs.Places.{slot-at, slot-twice}
 use Rattle.tables.proofs.Sums.{wrote-first}
 use Rattle.tables.proofs.Walks.{field-cases, field-even, field-odd}
 
@@ -76,24 +76,6 @@ module _ (deep l h count n : ℕ) (y : List ℤ) (ws : ℕ → List ℕ) (t b sl
       peek-bit (kind n) c (c .oddBit % 2) x
       (λ k. omega (arith, g .bits-are (sym e ∙ k) .1, bits-last (bits r hr))) refl
       ∙ rw e (peek-is (suc (suc deep)) y (ws r) c x g (bits r hr) hx (omega (arith, long r hr)))
-
-  pub costs-read : (x : ℕ) → x < 2 → (z z′ : List ℕ) → Wrote (topCost n l h t b slots x) 0 count z z′
-      → (r : ℕ) → r < count → getD z′ r 0 ≡ cost (suc (suc deep)) y (ws r ++ x ∷ [])
-  costs-read x hx z z′ a r hr = ap (λ (k : ℕ). getD z′ k 0) (sym (zero-add r)) ∙ a .inside r hr ∙ top-right x hx r hr
-
--- the tables have room for the top
-pub top-fits : (deep l h count n positions : ℕ) (t b slots : List ℕ) → Tables deep l h count n positions t b slots
-    → FitTop l h count t b slots
-top-fits deep l h count n positions t b slots a =
-    let q : slotStart 1 l l ≤ slotStart (2 ^ suc deep) l 0 = slot-deep 0 (suc deep) l 0 (omega arith) in
-    record {
-      long = a .long;
-      few = a .few;
-      words = omega (arith, a .low, a .costs);
-      bytes = omega (arith, a .low, a .triple);
-      windows = a .names .windows 0 (omega arith);
-      odds = a .names .odds 0 (omega arith);
-    }
 
 -- ---- the new bits
 -- every path's new bit at the top, from which the walk down starts

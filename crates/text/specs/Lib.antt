@@ -1,5 +1,3 @@
+pub mod BitText
 pub mod Decimal
-pub mod Output
 pub mod Put
-pub mod RowsText
-pub mod Sample

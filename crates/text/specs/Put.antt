@@ -90,3 +90,7 @@ whole {xs} {t} {u} {r} p h =
     let e : r ≡ length xs = omega (arith, p .place) in
     let z : 0 + length xs ≡ length xs = omega arith in
     record { count = e; fits = h; bytes = p .bytes ∙ placed-is 0 xs t (omega arith) ∙ ap (λ (k : ℕ). xs ++ drop k t) z }
+
+-- the same text, said otherwise
+pub begins-same : {xs ys t u : List ℕ} {r : ℕ} → xs ≡ ys → Begins xs t r u → Begins ys t r u
+begins-same {t = t} {u = u} {r = r} e b = subst (λ (zs : List ℕ). Begins zs t r u) e b

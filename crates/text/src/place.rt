@@ -3,7 +3,7 @@ ghost use mathlib.Core.Path.{_≡_};
 ghost use Prim.Native.Nat.{_+_, _≤_, _<_};
 ghost use mathlib.Core.List.{[], _∷_};
 ghost use lib.ListN.{length};
-ghost use Rattle.text.specs.Output.{bitByte, bitText};
+ghost use Rattle.text.specs.BitText.{bitByte, bitText};
 ghost use Rattle.text.specs.Put.{Put};
 
 pub fn put_byte(out: &mut [u8], at: usize, x: u8) -> usize

@@ -6,7 +6,7 @@ ghost use Rattle.spec.specs.Bits.{Bits, bitsOf, packed};
 ghost use Rattle.spec.specs.Transform.{transform, inverse};
 
 // c = (u0 + u1 + u3, u1 + u2 + u3, u2 + u3, u3)
-pub fn transform_four(s: &mut [u8])
+pub(crate) fn transform_four(s: &mut [u8])
     requires { ⌜ (length (now s) ≡ 4) × Bits (now s) ⌝ }
     ensures { λ _. ⌜ now (s .exit) ≡ transform 2 (now (s .entry)) ⌝ }
 {
@@ -19,7 +19,7 @@ pub fn transform_four(s: &mut [u8])
 }
 
 // u = (c0 + c1 + c2 + c3, c1 + c2, c2 + c3, c3)
-pub fn invert_four(s: &mut [u8])
+pub(crate) fn invert_four(s: &mut [u8])
     requires { ⌜ (length (now s) ≡ 4) × Bits (now s) ⌝ }
     ensures { λ _. ⌜ now (s .exit) ≡ inverse 2 (now (s .entry)) ⌝ }
 {
@@ -32,7 +32,7 @@ pub fn invert_four(s: &mut [u8])
 }
 
 // Bit i of the index is u_i, bit j of the entry is c_j.
-pub fn transform_eight(s: &mut [u8])
+pub(crate) fn transform_eight(s: &mut [u8])
     requires { ⌜ (length (now s) ≡ 8) × Bits (now s) ⌝ }
     ensures { λ _. ⌜ now (s .exit) ≡ transform 3 (now (s .entry)) ⌝ }
 {

@@ -261,7 +261,7 @@ const TABLE: [u8; 256] = [
     186,
 ];
 
-pub fn entry(x: u8) -> u8
+pub(crate) fn entry(x: u8) -> u8
     ensures { λ r. ⌜ r ≡ tableEntry x ⌝ }
 {
     TABLE[x as usize]

@@ -1,11 +1,10 @@
 use mathlib.Core.Path.{_∙_}
-use Prim.Native.Nat.{_-_}
 use borrow.Author.Needs.{needs}
 use mir.Syntax.{w32}
 use mir.ValLaws.{toZ-ofZ}
 use Rattle.spec.specs.Code.{code}
 use Rattle.spec.specs.Outcome.{Lent, lent}
-use Rattle.caldurrex.specs.Numbers.{small, face-is, answer-small}
+use Rattle.caldurrex.specs.Numbers.{small, number-is, answer-small}
 use Rattle.caldurrex.proofs.caldurrex_decode.Statement.{statement}
 use Rattle.caldurrex.proofs.caldurrex_decode.Tie as tie
 
@@ -38,7 +37,7 @@ same-length-5 c = search needs
 
 returns : tie.Need-returns
 returns c =
-    face-is (toZ-ofZ w32 (c .number-of .result) (record { sfits = c .number-of .ok }) ∙ c .number-of .ensures) (c .before .before .before .before .before .before .before .before .before .before .decode .ensures)
+    number-is (toZ-ofZ w32 (c .number-of .result) (record { sfits = c .number-of .ok }) ∙ c .number-of .ensures) (c .before .before .before .before .before .before .before .before .before .before .decode .ensures)
 
 pub caldurrex-decode-spec : {M : Type 1} → statement M
 caldurrex-decode-spec =

@@ -7,19 +7,19 @@ use lib.IntN.{pos, _-ℤ_}
 use mir.Syntax.{w32}
 use mir.Val.{toZ}
 use mir.ValLaws.{toZ-pos, toZ-ofZ}
-use Rattle.rows.proofs.Signs.{minus-is, minus-fits}
+use Rattle.signs.specs.Signs.{minus-is, minus-fits}
 use Rattle.decoder.specs.declared.call.Decoded.{Decoded}
 use Rattle.decoder.specs.declared.call.Decoded.the-variants.{Rows, Refused}
 use Rattle.decoder.specs.Answers.{answerOf}
-use Rattle.caldurrex.specs.Numbers.{numberOf, Small, few-rows, low-number}
+use Rattle.caldurrex.specs.Numbers.{numberOf, SmallAnswer, few-rows, low-number}
 use Rattle.caldurrex.proofs.number_of.Statement.{statement}
 use Rattle.caldurrex.proofs.number_of.Tie as tie
 
-rows-small : (d : Decoded) (r : ℕ) → d ≡ Rows r → Small (answerOf d) → r ≤ 32
+rows-small : (d : Decoded) (r : ℕ) → d ≡ Rows r → SmallAnswer (answerOf d) → r ≤ 32
 rows-small (Rows r′) r e (few-rows h) = let p : r′ ≡ r = cc in omega arith
 rows-small (Refused k) r e (low-number h) = let z : _≡_ {A = ℕ} 0 1 = cc in omega arith
 
-refused-small : (d : Decoded) (k : ℕ) → d ≡ Refused k → Small (answerOf d) → k ≤ 14
+refused-small : (d : Decoded) (k : ℕ) → d ≡ Refused k → SmallAnswer (answerOf d) → k ≤ 14
 refused-small (Refused k′) k e (low-number h) = let p : k′ ≡ k = cc in omega arith
 refused-small (Rows r) k e (few-rows h) = let z : _≡_ {A = ℕ} 0 1 = cc in omega arith
 
@@ -42,7 +42,7 @@ cast-result-2 : tie.Need-cast-result-2
 cast-result-2 c = record { sfits = number c }
 
 sub-result : tie.Need-sub-result
-sub-result c = minus-fits (c .before .d2 .given .0 .0) (number c)
+sub-result c = minus-fits w32 (c .before .d2 .given .0 .0) (number c)
 
 returns : tie.Need-returns
 returns c = toZ-pos w32 (c .before .d .given .0 .0) (row-count c) ∙ sym (ap (λ (d : Decoded). numberOf (answerOf d)) (c .before .d .given .1))
@@ -50,7 +50,7 @@ returns c = toZ-pos w32 (c .before .d .given .0 .0) (row-count c) ∙ sym (ap (�
 returns-2 : tie.Need-returns-2
 returns-2 c =
     let k = c .before .d2 .given .0 .0 in
-    toZ-ofZ w32 (pos 0 -ℤ toZ w32 k) (minus-fits k (number c)) ∙ minus-is k (number c) ∙ sym (ap (λ (d : Decoded). numberOf (answerOf d)) (c .before .d2 .given .1))
+    toZ-ofZ w32 (pos 0 -ℤ toZ w32 k) (minus-fits w32 k (number c)) ∙ minus-is w32 k (number c) ∙ sym (ap (λ (d : Decoded). numberOf (answerOf d)) (c .before .d2 .given .1))
 
 pub number-of-spec : {M : Type 1} → statement M
 number-of-spec =

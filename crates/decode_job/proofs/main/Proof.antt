@@ -1,6 +1,5 @@
 -- `decode_job::main` is safe: what it writes is the front of the buffer that `write_output` filled. Assumes nothing.
 use mathlib.Core.Path.{_≡_, sym}
-use Prim.Native.Nat.{_≤_}
 use native.Mathlib.Omega.{arith}
 use borrow.Author.Needs.{needs}
 use lib.ListN.{length}

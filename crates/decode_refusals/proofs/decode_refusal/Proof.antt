@@ -1,7 +1,7 @@
 -- `decode_refusals::decode_refusal` meets its contract: the three parts of the table, one after the other. Assumes nothing.
 use mathlib.Core.Path.{ap, _∙_}
 use mathlib.Core.List.{List, _++_}
-use Prim.Native.Nat.{ℕ, _+_, _^_, _≤_}
+use Prim.Native.Nat.{ℕ, _^_, _≤_}
 use borrow.Author.Needs.{needs}
 use lib.IntN.{ℤ}
 use Rattle.laws.specs.FirstFault.{First, later, is-first, of-first, found-before, found-after, end, next}

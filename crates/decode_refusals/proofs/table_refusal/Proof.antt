@@ -1,44 +1,49 @@
 -- `decode_refusals::table_refusal` meets its contract: at each `return` the tests that were passed, and the one that was not. Assumes nothing.
-use mathlib.Core.Path.{_≡_}
-use mathlib.Core.Bool.{false, not}
-use mathlib.Core.List.{List}
-use Prim.Native.Nat.{_+_, _*_}
-use native.Mathlib.Omega.{arith}
+use mathlib.Core.Path.{_≡_, refl, sym, ap, _∙_}
+use mathlib.Core.Bool.{Bool, true, false, _||_, true≢false}
+use mathlib.Core.List.{List, [], _∷_}
+use Prim.Native.Nat.{ℕ, _*_}
 use borrow.Author.Needs.{needs}
-use borrow.Author.Tests.{lt-ltb, le-ltb}
 use lib.Dec.{ltb}
-use Rattle.laws.specs.FirstFault.{none, here, later, is-first}
-use Rattle.spec.specs.Refusals.{tableFaults, room}
-use Rattle.spec.specs.Faults.{Fault}
+use Rattle.spec.specs.Faults.{Fault, fault}
+use Rattle.spec.specs.Refusals.{tableFaults, room, numberRoom, byteRoom}
+use Rattle.laws.specs.FirstFault.{First, none, here, later, is-first}
 use Rattle.decode_refusals.proofs.table_refusal.Statement.{statement}
 use Rattle.decode_refusals.proofs.table_refusal.Tie as tie
 
-table : (c : tie.Start) → List Fault
+abbrev table : tie.Start → List Fault
 table c = tableFaults (c .args .n) (c .args .l) (room (c .args .numbers) (c .args .bytes) (c .args .inputs) (c .args .words) (c .args .scores))
 
-area : (c : tie.After-times) → c .times .result ≡ c .before .args .n * c .before .args .l
-area c = c .times .ensures .0
+-- one condition in three parts
+some-short : (x y z : Bool) → (x || (y || z)) ≡ true → First (fault 10 x ∷ fault 10 y ∷ fault 10 z ∷ []) 10
+some-short true y z e = here refl
+some-short false true z e = later refl (here refl)
+some-short false false z e = later refl (later refl (here e))
+
+none-short : (x y z : Bool) → (x || (y || z)) ≡ false → First (fault 10 x ∷ fault 10 y ∷ fault 10 z ∷ []) 0
+none-short true y z e = absurd (true≢false e)
+none-short false true z e = absurd (true≢false e)
+none-short false false z e = later refl (later refl (later e none))
+
+-- the three tests, over n and l
+module _ (c : tie.After-outputs-short) where
+  abbrev s : tie.Start
+  s = c .before .before .before
+
+  numbers-test : ltb (s .args .numbers) (32 * c .before .before .times .result) ≡ ltb (s .args .numbers) (numberRoom (s .args .n) (s .args .l))
+  numbers-test = ap (λ (k : ℕ). ltb (s .args .numbers) (32 * k)) (c .before .before .times .ensures .0)
+
+  bytes-test : ltb (s .args .bytes) (c .before .times2 .result) ≡ ltb (s .args .bytes) (byteRoom (s .args .n) (s .args .l))
+  bytes-test = ap (ltb (s .args .bytes)) (c .before .times2 .ensures .0)
+
+  places-test : c .outputs-short .result
+      ≡ (ltb (s .args .inputs) (s .args .n * s .args .l) || (ltb (s .args .words) (s .args .n * s .args .l) || ltb (s .args .scores) (s .args .l)))
+  places-test =
+      c .outputs-short .ensures
+      ∙ ap (λ (k : ℕ). ltb (s .args .inputs) k || (ltb (s .args .words) k || ltb (s .args .scores) (s .args .l))) (c .before .before .times .ensures .0)
 
 times-requires : tie.Need-times-requires
 times-requires c κs = search needs
-
-mul-if1 : tie.Need-mul-if1
-mul-if1 c = search needs
-
-returns : tie.Need-returns
-unfolding table
-returns c =
-    let s = c .before .before in
-    let e = area (c .before) in
-    let t = c .if1 .taken in
-    is-first (table s) 8 (here (lt-ltb (s .args .numbers) (32 * (s .args .n * s .args .l)) (omega arith)))
-
-ok8 : (c : tie.Else1) → ltb (c .before .before .args .numbers) (32 * (c .before .before .args .n * c .before .before .args .l)) ≡ false
-ok8 c =
-    let s = c .before .before in
-    let e = area (c .before) in
-    let t = c .if1 .left in
-    le-ltb (s .args .numbers) (32 * (s .args .n * s .args .l)) (omega arith)
 
 mul-times : tie.Need-mul-times
 mul-times c = search needs
@@ -49,76 +54,47 @@ add-times c = search needs
 times-requires-2 : tie.Need-times-requires-2
 times-requires-2 c κs = search needs
 
-ok9 : (c : tie.Else2) → ltb (c .before .before .before .before .args .bytes) ((4 * c .before .before .before .before .args .n + 256) * c .before .before .before .before .args .l) ≡ false
-ok9 c =
-    let s = c .before .before .before .before in
-    let e = c .before .times2 .ensures .0 in
-    let t = c .if2 .left in
-    le-ltb (s .args .bytes) ((4 * s .args .n + 256) * s .args .l) (rw e at t)
+mul-few-numbers : tie.Need-mul-few-numbers
+mul-few-numbers c = search needs
+
+outputs-short-requires : tie.Need-outputs-short-requires
+outputs-short-requires c κs = search needs
+
+returns : tie.Need-returns
+returns c =
+    let o = c .before in
+    is-first (table (s o)) 8 (here (sym (numbers-test o) ∙ c .if1 .taken))
 
 returns-2 : tie.Need-returns-2
-unfolding table
 returns-2 c =
-    let s = c .before .before .before .before in
-    let e = c .before .times2 .ensures .0 in
-    let t = c .if2 .taken in
-    is-first (table s) 9 (later (ok8 (c .before .before)) (here (lt-ltb (s .args .bytes) ((4 * s .args .n + 256) * s .args .l) (rw e at t))))
+    let o = c .before .before in
+    is-first (table (s o)) 9 (later (sym (numbers-test o) ∙ c .before .if1 .left) (here (sym (bytes-test o) ∙ c .if2 .taken)))
 
 returns-3 : tie.Need-returns-3
-unfolding table
 returns-3 c =
-    let s = c .before .before .before .before .before in
-    let e = area (c .before .before .before .before) in
-    let t = c .if3 .taken in
-    is-first (table s) 10 (later (ok8 (c .before .before .before)) (later (ok9 (c .before)) (here (lt-ltb (s .args .inputs) (s .args .n * s .args .l) (omega arith)))))
-
-ok10 : (c : tie.Else3) → ltb (c .before .before .before .before .before .args .inputs) (c .before .before .before .before .before .args .n * c .before .before .before .before .before .args .l) ≡ false
-ok10 c =
-    let s = c .before .before .before .before .before in
-    let e = area (c .before .before .before .before) in
-    let t = c .if3 .left in
-    le-ltb (s .args .inputs) (s .args .n * s .args .l) (omega arith)
+    let o = c .before .before .before in
+    is-first (table (s o)) 10
+    (later (sym (numbers-test o) ∙ c .before .before .if1 .left) (later (sym (bytes-test o) ∙ c .before .if2 .left)
+    (some-short _ _ _ (sym (places-test o) ∙ c .if3 .taken))))
 
 returns-4 : tie.Need-returns-4
-unfolding table
 returns-4 c =
-    let s = c .before .before .before .before .before .before in
-    let e = area (c .before .before .before .before .before) in
-    let t = c .if4 .taken in
-    is-first (table s) 10
-    (later (ok8 (c .before .before .before .before)) (later (ok9 (c .before .before)) (later (ok10 (c .before)) (here (lt-ltb (s .args .words) (s .args .n * s .args .l) (omega arith))))))
-
-ok10′ : (c : tie.Else4) → ltb (c .before .before .before .before .before .before .args .words) (c .before .before .before .before .before .before .args .n * c .before .before .before .before .before .before .args .l) ≡ false
-ok10′ c =
-    let s = c .before .before .before .before .before .before in
-    let e = area (c .before .before .before .before .before) in
-    let t = c .if4 .left in
-    le-ltb (s .args .words) (s .args .n * s .args .l) (omega arith)
-
-returns-5 : tie.Need-returns-5
-unfolding table
-returns-5 c =
-    is-first (table (c .before .before .before .before .before .before .before)) 10
-    (later (ok8 (c .before .before .before .before .before)) (later (ok9 (c .before .before .before)) (later (ok10 (c .before .before)) (later (ok10′ (c .before)) (here (lt-ltb _ _ (c .if5 .taken)))))))
-
-returns-6 : tie.Need-returns-6
-unfolding table
-returns-6 c =
-    is-first (table (c .before .before .before .before .before .before .before)) 0
-    (later (ok8 (c .before .before .before .before .before)) (later (ok9 (c .before .before .before)) (later (ok10 (c .before .before)) (later (ok10′ (c .before)) (later (le-ltb _ _ (c .if5 .left)) none)))))
+    let o = c .before .before .before in
+    is-first (table (s o)) 0
+    (later (sym (numbers-test o) ∙ c .before .before .if1 .left) (later (sym (bytes-test o) ∙ c .before .if2 .left)
+    (none-short _ _ _ (sym (places-test o) ∙ c .if3 .left))))
 
 pub table-refusal-spec : {M : Type 1} → statement M
 table-refusal-spec =
     tie.close
     (tie.spec
     times-requires
-    mul-if1
-    returns
     mul-times
     add-times
     times-requires-2
+    mul-few-numbers
+    outputs-short-requires
+    returns
     returns-2
     returns-3
-    returns-4
-    returns-5
-    returns-6)
+    returns-4)

@@ -7,9 +7,19 @@ use lib.ListN.{length}
 use Rattle.spec.specs.Code.{mapBytes}
 use Rattle.spec.specs.Record.{positions}
 use Rattle.spec.specs.Outcome.{readRefusal, readServed}
-use Rattle.job.specs.Calls.{Shaped, accepted, same-reading, read-refused, read-served}
+use Rattle.job_fields.specs.Laid.{Shaped}
+use Rattle.job.specs.Calls.{accepted-record, same-reading, read-refused, read-served}
 use Rattle.job.proofs.read_job.Statement.{statement}
 use Rattle.job.proofs.read_job.Tie as tie
+
+record-refusal-requires : tie.Need-record-refusal-requires
+record-refusal-requires c κs = search needs
+
+returns : tie.Need-returns
+returns c =
+    let r = c .before .record-refusal in
+    let a = c .before .before .before .before .args in
+    read-refused (a .bytes .now) (a .map .now) (a .soft .now) (r .result) (r .ensures) (c .if1 .taken)
 
 abbrev start : tie.Else1 → tie.Start
 start c = c .before .before .before .before
@@ -22,16 +32,7 @@ known : (c : tie.Else1) → let a = start c .args in
     Shaped (a .bytes .now) × (mapBytes (positions (a .bytes .now)) ≤ length (a .map .now)) × (positions (a .bytes .now) ≤ length (a .soft .now))
 known c =
     let a = start c .args in
-    accepted (a .bytes .now) (length (a .map .now)) (length (a .soft .now)) (passed c)
-
-record-refusal-requires : tie.Need-record-refusal-requires
-record-refusal-requires c κs = search needs
-
-returns : tie.Need-returns
-returns c =
-    let r = c .before .record-refusal in
-    let a = c .before .before .before .before .args in
-    read-refused (a .bytes .now) (a .map .now) (a .soft .now) (r .result) (r .ensures) (c .if1 .taken)
+    accepted-record (a .bytes .now) (length (a .map .now)) (length (a .soft .now)) (passed c)
 
 locate-requires : tie.Need-locate-requires
 locate-requires c κs = known c .0

@@ -3,13 +3,13 @@ use mathlib.Core.Path.{_≡_, sym, ap, _∙_}
 use Prim.Native.Nat.{ℕ}
 use borrow.Author.Needs.{needs}
 use lib.ListN.{replicate, length-replicate}
-use lib.IntN.{ℤ, pos}
+use lib.IntN.{pos}
 use Rattle.spec.specs.Outcome.{reading, readOutcome}
 use Rattle.job.specs.Answer.{jobOf}
 use Rattle.job.specs.Calls.{read-exponent}
 use Rattle.job.specs.declared.Job.{Job}
 use Rattle.decode_job.specs.Records.{refused-record, read-record}
-use Rattle.decode_job.specs.Texts.{begins-same}
+use Rattle.text.specs.Put.{begins-same}
 use Rattle.decode_job.proofs.output.write_record.Statement.{statement}
 use Rattle.decode_job.proofs.output.write_record.Tie as tie
 

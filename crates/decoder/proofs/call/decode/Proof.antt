@@ -1,9 +1,10 @@
 use mathlib.Core.Path.{refl}
-use Prim.Native.Nat.{_-_, _*_}
+use Prim.Native.Nat.{_*_}
 use native.Mathlib.Omega.{arith}
 use borrow.Author.Needs.{needs}
 use Prim.Native.Nat.{_^_, _/_}
-use Rattle.spec.specs.Outcome.{Lent, lent}
+use Rattle.spec.specs.Refusals.{Room}
+use Rattle.spec.specs.Outcome.{Lent, lent, roomOf}
 use Rattle.decoder.proofs.Refusing.{refused-call, small-exponent, serve-fits, served-call}
 use Rattle.decoder.proofs.call.decode.Statement.{statement}
 use Rattle.decoder.proofs.call.decode.Tie as tie
@@ -11,6 +12,10 @@ use Rattle.decoder.proofs.call.decode.Tie as tie
 -- what is lent, as it comes
 abbrev given : tie.Start → Lent
 given c = lent (c .args .numbers .now) (c .args .bytes .now) (c .args .inputs .now) (c .args .words .now) (c .args .scores .now)
+
+-- and how much of it there is
+abbrev room-of : tie.Start → Room
+room-of c = roomOf (given c)
 
 decode-refusal-requires : tie.Need-decode-refusal-requires
 decode-refusal-requires c κs = search needs
@@ -25,20 +30,20 @@ size-requires : tie.Need-size-requires
 size-requires c κs =
     let s = c .before .before .before .before .before .before .before in
     let k = c .before .decode-refusal in
-    small-exponent (s .args .m) (s .args .l) (s .args .p) (s .args .map .now) (s .args .soft .now) (k .result) _ (k .ensures) (c .if1 .left)
+    small-exponent (s .args .m) (s .args .l) (s .args .p) (s .args .map .now) (s .args .soft .now) (k .result) (room-of s) (k .ensures) (c .if1 .left)
 
 times-requires : tie.Need-times-requires
 times-requires c κs =
     let s = c .before .before .before .before .before .before .before .before in
     let k = c .before .before .decode-refusal in
-    let f = serve-fits (s .args .m) (s .args .l) (s .args .p) (s .args .map .now) (s .args .soft .now) (k .result) _ (k .ensures) (c .before .if1 .left) (2 ^ s .args .m) (2 ^ s .args .m / 2 * s .args .l) refl refl in
+    let f = serve-fits (s .args .m) (s .args .l) (s .args .p) (s .args .map .now) (s .args .soft .now) (k .result) (room-of s) (k .ensures) (c .before .if1 .left) (2 ^ s .args .m) (2 ^ s .args .m / 2 * s .args .l) refl refl in
     (omega (arith, c .size .ensures .1), omega (arith, f .list))
 
 serve-requires : tie.Need-serve-requires
 serve-requires c κs =
     let s = c .before .before .before .before .before .before .before .before .before .before .before .before .before .before in
     let k = c .before .before .before .before .before .before .before .before .decode-refusal in
-    serve-fits (s .args .m) (s .args .l) (s .args .p) (s .args .map .now) (s .args .soft .now) (k .result) _ (k .ensures) (c .before .before .before .before .before .before .before .if1 .left) _ _ (c .before .before .before .before .before .before .size .ensures .0) (c .before .before .before .before .before .times .ensures .0)
+    serve-fits (s .args .m) (s .args .l) (s .args .p) (s .args .map .now) (s .args .soft .now) (k .result) (room-of s) (k .ensures) (c .before .before .before .before .before .before .before .if1 .left) _ _ (c .before .before .before .before .before .before .size .ensures .0) (c .before .before .before .before .before .times .ensures .0)
 
 cast-t31 : tie.Need-cast-t31
 cast-t31 c = search needs

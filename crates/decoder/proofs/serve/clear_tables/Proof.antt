@@ -1,5 +1,4 @@
 use mathlib.Core.Path.{_∙_}
-use Prim.Native.Nat.{_-_}
 use borrow.Author.Needs.{needs}
 use Rattle.decoder.proofs.Serving.{zeroed}
 use Rattle.decoder.proofs.serve.clear_tables.Statement.{statement}

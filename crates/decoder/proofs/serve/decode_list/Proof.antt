@@ -1,12 +1,12 @@
 use mathlib.Core.Path.{refl, ap, _∙_}
 use mathlib.Core.List.{List}
-use Prim.Native.Nat.{ℕ, _-_}
+use Prim.Native.Nat.{ℕ}
 use native.Mathlib.Omega.{arith}
 use lib.ListN.{length, getD}
 use borrow.Author.Needs.{needs}
 use Rattle.decoder.proofs.Serving.{start-fits, run-fits, exponent, whole, zeroed}
 use Rattle.spec.specs.Code.{code}
-use Rattle.decoder.proofs.Looping.{zeros-at}
+use Rattle.positions.specs.Running.{zeros-at}
 use Rattle.decoder.proofs.serve.decode_list.Statement.{statement}
 use Rattle.decoder.proofs.serve.decode_list.Tie as tie
 

@@ -14,7 +14,7 @@ use Rattle.rows.proofs.scores.write_scores.Statement.{statement}
 use Rattle.rows.proofs.scores.write_scores.Tie as tie
 use Rattle.rows.proofs.scores.write_scores.Reads as reads
 use Rattle.rows.proofs.scores.write_scores.Lts as lts
-use Rattle.fill.proofs.fill_scores.Reads as fill-scores-reads
+use Rattle.slices.proofs.fill_scores.Reads as fill-scores-reads
 use Rattle.rows.proofs.scores.score_of.Reads as score-of-reads
 
 abbrev Inv-loop : tie.InvT-loop

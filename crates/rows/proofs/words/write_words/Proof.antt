@@ -11,7 +11,7 @@ use Rattle.rows.proofs.words.write_words.Statement.{statement}
 use Rattle.rows.proofs.words.write_words.Tie as tie
 use Rattle.rows.proofs.words.write_words.Reads as reads
 use Rattle.rows.proofs.words.write_words.Lts as lts
-use Rattle.fill.proofs.fill_bytes.Reads as fill-bytes-reads
+use Rattle.slices.proofs.fill_bytes.Reads as fill-bytes-reads
 use Rattle.rows.proofs.words.put_word.Reads as put-word-reads
 
 abbrev Inv-loop : tie.InvT-loop

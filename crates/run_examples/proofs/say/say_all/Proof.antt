@@ -18,7 +18,7 @@ shared-slice-read-say-byte : tie.Need-shared-slice-read-say-byte Inv-loop μ-loo
 shared-slice-read-say-byte c = search needs
 
 say-byte-requires : tie.Need-say-byte-requires Inv-loop μ-loop
-say-byte-requires c κs = search needs
+say-byte-requires c κs = tt
 
 add-i : tie.Need-add-i Inv-loop μ-loop
 add-i c = search needs
@@ -30,7 +30,7 @@ loop-again : tie.Need-loop-again Inv-loop μ-loop
 loop-again c = search needs
 
 returns : tie.Need-returns Inv-loop μ-loop
-returns c = search needs
+returns c = tt
 
 pub say-all-spec : {M : Type 1} → statement M
 say-all-spec =

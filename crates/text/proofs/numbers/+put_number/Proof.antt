@@ -3,7 +3,6 @@ use mathlib.Core.Path.{ap, sym, _∙_}
 use mathlib.Core.List.{[], _∷_, _++_}
 use Prim.Native.Nat.{ℕ, _/_, _≤_, _<_}
 use native.Mathlib.Omega.{arith}
-use borrow.Author.Needs.{needs}
 use borrow.Fn.Kinds.{In}
 use borrow.Fn.PlainCycle.{Measures, is, falls, and}
 use lib.ListN.{length}
@@ -32,13 +31,13 @@ abbrev claims : ℕ → put-number-lts.Claims
 claims t = (digit-reads.Asked, digit-reads.Learnt, put-byte-reads.Asked, put-byte-reads.Learnt, put-number-below t, put-number.Post)
 
 digit-requires : (t : ℕ) → put-number-lts.Need-digit-requires (claims t) (put-number-at t) put-number.Post
-digit-requires t c κs = search needs
+digit-requires t c κs = omega arith
 
 put-byte-requires : (t : ℕ) → put-number-lts.Need-put-byte-requires (claims t) (put-number-at t) put-number.Post
-put-byte-requires t c κs = search needs
+put-byte-requires t c κs = omega arith
 
 same-length : (t : ℕ) → put-number-lts.Need-same-length (claims t) (put-number-at t) put-number.Post
-same-length t c = search needs
+same-length t c = omega arith
 
 returns : (t : ℕ) → put-number-lts.Need-returns (claims t) (put-number-at t) put-number.Post
 returns t c =
@@ -50,10 +49,10 @@ returns t c =
     (put-same (p .put-byte .ensures .0) e, omega (arith, p .put-byte .ensures .1))
 
 put-number-requires : (t : ℕ) → put-number-lts.Need-put-number-requires (claims t) (put-number-at t) put-number.Post
-put-number-requires t c κs = search needs
+put-number-requires t c κs = omega arith
 
 digit-requires-2 : (t : ℕ) → put-number-lts.Need-digit-requires-2 (claims t) (put-number-at t) put-number.Post
-digit-requires-2 t c κs = search needs
+digit-requires-2 t c κs = omega arith
 
 put-byte-requires-2 : (t : ℕ) → put-number-lts.Need-put-byte-requires-2 (claims t) (put-number-at t) put-number.Post
 put-byte-requires-2 t c κs =
@@ -63,7 +62,7 @@ put-byte-requires-2 t c κs =
     omega (arith, p .put-number .ensures .0 .place, p .put-number .kept .0, s .pre .1)
 
 same-length-2 : (t : ℕ) → put-number-lts.Need-same-length-2 (claims t) (put-number-at t) put-number.Post
-same-length-2 t c = search needs
+same-length-2 t c = omega arith
 
 returns-2 : (t : ℕ) → put-number-lts.Need-returns-2 (claims t) (put-number-at t) put-number.Post
 returns-2 t c =

@@ -1,5 +1,5 @@
 -- `text::numbers::magnitude` meets its contract: -1 - z is not negative where z is, and one less than its size. Assumes nothing.
-use mathlib.Core.Path.{_≡_, sym, ap, subst, _∙_}
+use mathlib.Core.Path.{_≡_, sym, ap, subst}
 use Prim.Native.Nat.{_+_, _<_}
 use native.Mathlib.Omega.{arith}
 use lib.Dec.{T}
@@ -8,7 +8,7 @@ use lib.Signed.{nonNeg, mag, natAbs-le}
 use mir.Syntax.{w32}
 use mir.Val.{toZ, ofZ}
 use mir.ValLaws.{toZ-ofZ}
-use Rattle.text.proofs.Negative.{flip-fits, flip-back, size-is, not-below}
+use Rattle.signs.specs.Signs.{flip-fits, flip-back, flip-size, not-below}
 use Rattle.text.proofs.numbers.magnitude.Statement.{statement}
 use Rattle.text.proofs.numbers.magnitude.Tie as tie
 
@@ -40,7 +40,7 @@ cast-result-2 c =
     (not-below w32 z f (c .if1 .left), record { fits = subst (λ (y : ℤ). natAbs y < 4294967296) (sym (plain-back c)) (omega (arith, natAbs-le z (f .sfits))) })
 
 returns : tie.Need-returns
-returns c = ap (λ (y : ℤ). natAbs y + 1) (flipped c) ∙ size-is w32 (c .before .args .z) (c .before .fits .z) (c .if1 .taken)
+returns c = flip-size w32 (c .before .args .z) (c .before .fits .z) (c .if1 .taken)
 
 returns-2 : tie.Need-returns-2
 returns-2 c = ap natAbs (plain-back c)

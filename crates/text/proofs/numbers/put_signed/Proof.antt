@@ -3,13 +3,12 @@ use mathlib.Core.Path.{_≡_, sym, ap, _∙_}
 use mathlib.Core.List.{List, _∷_}
 use Prim.Native.Nat.{ℕ}
 use native.Mathlib.Omega.{arith}
-use borrow.Author.Needs.{needs}
 use lib.IntN.{natAbs}
 use mir.Syntax.{w32}
 use mir.ValLaws.{toZ-ofZ}
 use Rattle.text.specs.Decimal.{decimal}
 use Rattle.text.specs.Put.{then, put-same}
-use Rattle.text.proofs.Negative.{minus-text, plain-text}
+use Rattle.text.proofs.SignedText.{minus-text, plain-text}
 use Rattle.text.proofs.numbers.put_signed.Statement.{statement}
 use Rattle.text.proofs.numbers.put_signed.Tie as tie
 
@@ -20,7 +19,7 @@ size-digits c =
     ap decimal (c .magnitude .ensures ∙ ap natAbs (toZ-ofZ w32 (s .args .z) (s .fits .z)))
 
 magnitude-requires : tie.Need-magnitude-requires
-magnitude-requires c κs = search needs
+magnitude-requires c κs = omega arith
 
 put-byte-requires : tie.Need-put-byte-requires
 put-byte-requires c κs = omega arith
@@ -29,7 +28,7 @@ put-number-requires : tie.Need-put-number-requires
 put-number-requires c κs = omega arith
 
 same-length : tie.Need-same-length
-same-length c = search needs
+same-length c = omega arith
 
 returns : tie.Need-returns
 returns c =
@@ -46,7 +45,7 @@ put-number-requires-2 : tie.Need-put-number-requires-2
 put-number-requires-2 c κs = omega arith
 
 same-length-2 : tie.Need-same-length-2
-same-length-2 c = search needs
+same-length-2 c = omega arith
 
 returns-2 : tie.Need-returns-2
 returns-2 c =

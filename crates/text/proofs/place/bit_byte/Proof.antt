@@ -1,7 +1,7 @@
 -- `text::place::bit_byte` meets its contract. Assumes nothing.
 use mathlib.Core.Path.{_≡_, refl}
 use Prim.Native.Nat.{ℕ, zero, suc}
-use Rattle.text.specs.Output.{bitByte}
+use Rattle.text.specs.BitText.{bitByte}
 use Rattle.text.proofs.place.bit_byte.Statement.{statement}
 use Rattle.text.proofs.place.bit_byte.Tie as tie
 

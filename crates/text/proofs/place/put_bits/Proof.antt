@@ -2,9 +2,8 @@
 use mathlib.Core.Path.{_≡_, refl, sym, ap, _∙_}
 use Prim.Native.Nat.{ℕ, _+_, _-_, _≤_}
 use native.Mathlib.Omega.{arith}
-use borrow.Author.Needs.{needs}
 use lib.ListN.{length, drop, length-set}
-use Rattle.text.specs.Output.{bitText, length-bits}
+use Rattle.text.specs.BitText.{bitText, length-bits}
 use Rattle.text.specs.Put.{placed}
 use Rattle.text.proofs.Turns.{bit-turn, bits-done}
 use Rattle.text.proofs.place.put_bits.Statement.{statement}
@@ -26,7 +25,7 @@ shared-slice-read-bit-byte : tie.Need-shared-slice-read-bit-byte Inv-loop μ-loo
 shared-slice-read-bit-byte c = omega arith
 
 bit-byte-requires : tie.Need-bit-byte-requires Inv-loop μ-loop
-bit-byte-requires c κs = search needs
+bit-byte-requires c κs = omega arith
 
 add-out : tie.Need-add-out Inv-loop μ-loop
 add-out c = omega arith

@@ -1,17 +1,16 @@
 -- `text::place::put_byte` meets its contract. Assumes nothing.
 use mathlib.Core.Path.{refl}
 use native.Mathlib.Omega.{arith}
-use borrow.Author.Needs.{needs}
 use lib.ListN.{length-set}
 use Rattle.text.specs.Put.{placed-one}
 use Rattle.text.proofs.place.put_byte.Statement.{statement}
 use Rattle.text.proofs.place.put_byte.Tie as tie
 
 slice-write-out : tie.Need-slice-write-out
-slice-write-out c = search needs
+slice-write-out c = omega arith
 
 add-result : tie.Need-add-result
-add-result c = search needs
+add-result c = omega arith
 
 same-length : tie.Need-same-length
 same-length c = simp length-set

@@ -1,0 +1,46 @@
+-- `encoder::payload_refusal` meets its contract: the two parts of the table, one after the other. Assumes nothing.
+use mathlib.Core.Path.{sym, ap, _∙_}
+use mathlib.Core.List.{List}
+use Prim.Native.Nat.{ℕ}
+use borrow.Author.Needs.{needs}
+use Rattle.spec.specs.Code.{Code, code, payloadSize}
+use Rattle.spec.specs.Faults.{Fault, first}
+use Rattle.spec.specs.Refusals.{codeFaults}
+use Rattle.laws.specs.FirstFault.{first-before, first-after}
+use Rattle.laws.specs.Accepted.{accepted}
+use Rattle.code.specs.Given.{bitFaults, code-numbers}
+use Rattle.encoder.proofs.payload_refusal.Statement.{statement}
+use Rattle.encoder.proofs.payload_refusal.Tie as tie
+
+abbrev given : tie.Start → Code
+given c = code (c .args .m) (c .args .map .now)
+
+abbrev rest : tie.Start → List Fault
+rest c = bitFaults (payloadSize (given c)) (c .args .payload .now)
+
+code-refusal-requires : tie.Need-code-refusal-requires
+code-refusal-requires c κs = search needs
+
+returns : tie.Need-returns
+returns c =
+    let s = c .before .before .before .before in
+    first-before (codeFaults (given s)) (rest s) (c .before .code-refusal .result) (c .before .code-refusal .ensures) (c .if1 .taken)
+
+payload-size-requires : tie.Need-payload-size-requires
+payload-size-requires c κs =
+    accepted (given (c .before .before .before .before)) (sym (c .if1 .left) ∙ c .before .code-refusal .ensures)
+
+bit-refusal-requires : tie.Need-bit-refusal-requires
+bit-refusal-requires c κs = search needs
+
+returns-2 : tie.Need-returns-2
+returns-2 c =
+    let e = c .before .before in
+    let s = e .before .before .before .before in
+    first-after (codeFaults (given s)) (rest s) (e .before .code-refusal .result) (e .before .code-refusal .ensures) (code-numbers (given s)) (e .if1 .left)
+    (c .bit-refusal .result) (c .bit-refusal .ensures ∙ ap (λ (k : ℕ). first (bitFaults k (s .args .payload .now))) (c .before .payload-size .ensures))
+
+pub payload-refusal-spec : {M : Type 1} → statement M
+payload-refusal-spec =
+    tie.close
+    (tie.spec code-refusal-requires returns payload-size-requires bit-refusal-requires returns-2)

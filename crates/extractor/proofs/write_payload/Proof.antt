@@ -1,0 +1,129 @@
+-- `extractor::write_payload` meets its contract: at each `return` the tests that were passed and the one that was not, and at
+-- the last the payload with 0 behind it. Assumes nothing.
+use mathlib.Core.Path.{_≡_, sym, ap, _∙_}
+use mathlib.Core.List.{List}
+use Prim.Native.Nat.{ℕ, _*_, _^_, _≤_}
+use native.Mathlib.Omega.{arith}
+use borrow.Author.Needs.{needs}
+use borrow.Author.Tests.{ltb-false}
+use lib.Dec.{ltb}
+use lib.ListN.{length, take}
+use lib.Seq.{length-take-le}
+use Rattle.spec.specs.Code.{Code, code, frozen, payloadSize, clear, gathered, broken}
+use Rattle.spec.specs.Faults.{Fault}
+use Rattle.spec.specs.Outcome.{padded, written}
+use Rattle.laws.specs.FirstFault.{none, here, later, is-first}
+use Rattle.laws.specs.MapBits.{flagsOf, enough-bits}
+use Rattle.extractor.specs.ExtractCall.{inputFaults, payload-refused, payload-served}
+use Rattle.slices.specs.Fill.{filled-behind}
+use Rattle.code.specs.Given.{flags-are}
+use Rattle.extractor.proofs.write_payload.Statement.{statement}
+use Rattle.extractor.proofs.write_payload.Tie as tie
+
+abbrev given : tie.Start → Code
+given c = code (c .args .m) (c .args .map .now)
+
+abbrev table : tie.Start → List Fault
+table c = inputFaults (given c) (c .args .input .now) (length (c .args .payload .now))
+
+flags : (c : tie.Start) → flagsOf (length (c .args .input .now)) (c .args .map .now) ≡ frozen (given c)
+flags c = flags-are (c .args .m) (length (c .args .input .now)) (c .args .map .now) (c .pre .1)
+
+-- the map has a flag for each position of the input
+enough : (c : tie.Start) → length (c .args .input .now) ≤ 8 * length (c .args .map .now)
+enough c =
+    let b : 2 ^ c .args .m ≤ 8 * length (c .args .map .now) = enough-bits (2 ^ c .args .m) (c .args .map .now) (c .pre .0 .bytes) in
+    let e : length (c .args .input .now) ≡ 2 ^ c .args .m = c .pre .1 in
+    omega arith
+
+frozen-bit-set-requires : tie.Need-frozen-bit-set-requires
+frozen-bit-set-requires c κs = enough (c .before .before .before)
+
+tested : (c : tie.After-frozen-bit-set) → broken (frozen (given (c .before .before .before .before))) (c .before .before .before .before .args .input .now) ≡ c .frozen-bit-set .result
+tested c =
+    let s = c .before .before .before .before in
+    sym (c .frozen-bit-set .ensures ∙ ap (λ (fs : List ℕ). broken fs (s .args .input .now)) (flags s))
+
+payload-size-requires : tie.Need-payload-size-requires
+payload-size-requires c κs = search needs
+
+abbrev start : tie.After-payload-size → tie.Start
+start c = c .before .before .before .before .before
+
+-- the two tests, over the code
+outside-test : (c : tie.After-payload-size) → broken (frozen (given (start c))) (start c .args .input .now) ≡ c .before .frozen-bit-set .result
+outside-test c = tested (c .before)
+
+short-test : (c : tie.After-payload-size)
+    → ltb (length (start c .args .payload .now)) (payloadSize (given (start c))) ≡ ltb (length (start c .args .payload .now)) (c .payload-size .result)
+short-test c = ap (ltb (length (start c .args .payload .now))) (sym (c .payload-size .ensures))
+
+returns : tie.Need-returns
+returns c =
+    let k = c .before in
+    let s = start k in
+    payload-refused (given s) (s .args .input .now) (s .args .payload .now) 12
+    (is-first (table s) 12 (here (outside-test k ∙ c .if1 .taken))) (λ z. omega arith)
+
+returns-2 : tie.Need-returns-2
+returns-2 c =
+    let k = c .before .before in
+    let s = start k in
+    payload-refused (given s) (s .args .input .now) (s .args .payload .now) 10
+    (is-first (table s) 10 (later (outside-test k ∙ c .before .if1 .left) (here (short-test k ∙ c .if2 .taken)))) (λ z. omega arith)
+
+-- the output has room
+fits : (c : tie.Else2) → c .before .before .payload-size .result ≤ length (start (c .before .before) .args .payload .now)
+fits c = ltb-false (length (start (c .before .before) .args .payload .now)) (c .before .before .payload-size .result) (c .if2 .left)
+
+slice-relend-prefix-gather-payload : tie.Need-slice-relend-prefix-gather-payload
+slice-relend-prefix-gather-payload c = omega (arith, fits c)
+
+-- the part that is lent
+part : (c : tie.Else2) → length (take (c .before .before .payload-size .result) (start (c .before .before) .args .payload .now)) ≡ c .before .before .payload-size .result
+part c = length-take-le (c .before .before .payload-size .result) (start (c .before .before) .args .payload .now) (fits c)
+
+slice-aggregate-gather-payload : tie.Need-slice-aggregate-gather-payload
+slice-aggregate-gather-payload c = sym (part (c .before))
+
+gather-payload-requires : tie.Need-gather-payload-requires
+gather-payload-requires c κs =
+    let l = c .before in
+    let s = start (l .before .before) in
+    (enough s, ap clear (flags s) ∙ sym (part l ∙ l .before .before .payload-size .ensures))
+
+fill-bytes-requires : tie.Need-fill-bytes-requires
+fill-bytes-requires c κs = search needs
+
+same-length : tie.Need-same-length
+same-length c = search needs
+
+returns-3 : tie.Need-returns-3
+returns-3 c =
+    let w = c .before .before .before .before .before .before in
+    let l = w .before .before in
+    let p = l .before .before in
+    let s = start p in
+    let k = p .payload-size .result in
+    let out = s .args .payload .now in
+    ap (written 0)
+    (c .before .before .fill-bytes .ensures
+    ∙ filled-behind 0 (w .gather-payload .last .1 .1 .0) out k (w .gather-payload .kept .1 .1 .0 ∙ part l) (fits l)
+    ∙ ap (padded 0 (length out)) (w .gather-payload .ensures ∙ ap (λ (fs : List ℕ). gathered fs (s .args .input .now)) (flags s)))
+    ∙ payload-served (given s) (s .args .input .now) out
+    (is-first (table s) 0 (later (outside-test p ∙ l .before .if1 .left) (later (short-test p ∙ l .if2 .left) none)))
+
+pub write-payload-spec : {M : Type 1} → statement M
+write-payload-spec =
+    tie.close
+    (tie.spec
+    frozen-bit-set-requires
+    payload-size-requires
+    returns
+    returns-2
+    slice-relend-prefix-gather-payload
+    slice-aggregate-gather-payload
+    gather-payload-requires
+    fill-bytes-requires
+    same-length
+    returns-3)

@@ -1,0 +1,98 @@
+-- `job::copying::copy_soft` meets its contract: the values passed are written, and those behind them are as before.
+-- Assumes nothing.
+use mathlib.Core.Path.{_≡_, refl, sym, ap, _∙_}
+use mathlib.Core.List.{List, [], _∷_, _++_, append-nil}
+use Prim.Native.Nat.{ℕ, suc, _+_, _-_, _*_, _≤_, _<_}
+use native.Mathlib.Numerals.{add-one}
+use native.Mathlib.Omega.{arith}
+use borrow.Author.Needs.{needs}
+use lib.ListN.{length, drop, set, getD, length-set}
+use lib.Seq.{drop-length, drop-cons, set-at, append-snoc}
+use lib.IntN.{ℤ}
+use mir.Syntax.{w16}
+use mir.Val.{toZ, ofZ}
+use mir.ValLaws.{toZ-ofZ}
+use Rattle.spec.specs.Record.{twoAt, signed16, softFrom}
+use Rattle.job.specs.SoftValues.{length-soft, soft-more}
+use Rattle.job.proofs.copying.copy_soft.Statement.{statement}
+use Rattle.job.proofs.copying.copy_soft.Tie as tie
+
+-- one value more
+step : (s : List ℕ) (at : ℕ) (t o : List ℤ) (i : ℕ) (v : ℤ) → i < length t → o ≡ softFrom s at i ++ drop i t → v ≡ signed16 (twoAt s (at + 2 * i))
+    → set o i v ≡ softFrom s at (i + 1) ++ drop (i + 1) t
+step s at t o i v h e f =
+    let done : List ℤ = softFrom s at i in
+    let rest : List ℤ = drop (suc i) t in
+    ap (λ (l : List ℤ). set l i v) (e ∙ ap (λ (l : List ℤ). done ++ l) (drop-cons t i v h)) ∙ set-at done (getD t i v) rest v i (length-soft s at i)
+    ∙ sym (append-snoc done v rest)
+    ∙ rw (add-one i) (ap (λ (l : List ℤ). l ++ rest) (ap (λ (z : ℤ). done ++ (z ∷ [])) f ∙ sym (soft-more s at i)))
+
+abbrev Inv-loop : tie.InvT-loop
+Inv-loop bytes at soft₀ i₀ soft i = (i ≤ length soft₀) × (length soft ≡ length soft₀) × (soft ≡ softFrom bytes at i ++ drop i soft₀)
+
+abbrev μ-loop : tie.MeasureT-loop
+μ-loop bytes at soft₀ i₀ soft i = length soft₀ - i
+
+loop-holds : tie.Need-loop-holds Inv-loop μ-loop
+unfolding softFrom
+loop-holds c = (omega arith, refl, refl)
+
+mul-soft-value : tie.Need-mul-soft-value Inv-loop μ-loop
+mul-soft-value c = omega arith
+
+add-soft-value : tie.Need-add-soft-value Inv-loop μ-loop
+add-soft-value c = omega arith
+
+soft-value-requires : tie.Need-soft-value-requires Inv-loop μ-loop
+soft-value-requires c κs = omega arith
+
+mul-t9 : tie.Need-mul-t9 Inv-loop μ-loop
+mul-t9 c = search needs
+
+slice-set-from-soft : tie.Need-slice-set-from-soft Inv-loop μ-loop
+slice-set-from-soft c = search needs
+
+add-i : tie.Need-add-i Inv-loop μ-loop
+add-i c = omega arith
+
+loop-less : tie.Need-loop-less Inv-loop μ-loop
+loop-less c = omega arith
+
+loop-again : tie.Need-loop-again Inv-loop μ-loop
+loop-again c =
+    let l = c .before .before in
+    let a = l .before .before .args in
+    let i = l .loop .i in
+    let h : i < length (a .soft .now) = omega arith in
+    let v : toZ w16 (ofZ w16 (c .soft-value .result)) ≡ signed16 (twoAt (a .bytes .now) (a .at + 2 * i))
+    = toZ-ofZ w16 (c .soft-value .result) (record { sfits = c .soft-value .ok }) ∙ c .soft-value .ensures in
+    (omega arith, simp length-set (omega arith), step (a .bytes .now) (a .at) (a .soft .now) (l .loop .soft) i _ h (l .loop .inv .2) v)
+
+same-length : tie.Need-same-length Inv-loop μ-loop
+same-length c = omega arith
+
+returns : tie.Need-returns Inv-loop μ-loop
+returns c =
+    let l = c .before in
+    let a = l .before .before .args in
+    let e : l .loop .i ≡ length (a .soft .now) = omega (arith, c .loop-test .left) in
+    l .loop .inv .2 ∙ ap (λ (k : ℕ). softFrom (a .bytes .now) (a .at) k ++ drop k (a .soft .now)) e
+    ∙ rw (drop-length (a .soft .now)) (append-nil (softFrom (a .bytes .now) (a .at) (length (a .soft .now))))
+
+pub copy-soft-spec : {M : Type 1} → statement M
+copy-soft-spec =
+    tie.close
+    (tie.spec
+    Inv-loop
+    μ-loop
+    loop-holds
+    mul-soft-value
+    add-soft-value
+    soft-value-requires
+    mul-t9
+    slice-set-from-soft
+    add-i
+    loop-less
+    loop-again
+    same-length
+    returns)

@@ -1,0 +1,46 @@
+// The frozen map and the soft values of a record, at the front of a lent slice each, and 0 behind.
+use job_fields::Layout;
+use job_fields::soft_value;
+use slices::copy;
+use slices::fill_bytes;
+use slices::fill_soft;
+ghost use mathlib.Core.Path.{_≡_};
+ghost use Prim.Native.Nat.{_+_, _*_, _≤_};
+ghost use lib.ListN.{length};
+ghost use lib.IntN.{pos};
+ghost use Rattle.spec.specs.Code.{mapBytes};
+ghost use Rattle.spec.specs.Record.{positions, softFrom, recordMap, recordSoft};
+ghost use Rattle.spec.specs.Outcome.{padded};
+ghost use Rattle.job_fields.specs.Laid.{Laid};
+
+pub(crate) fn write_map(bytes: &[u8], at: Layout, map: &mut [u8])
+    requires { ⌜ (Laid (now bytes) at) × (mapBytes (positions (now bytes)) ≤ length (now map)) ⌝ }
+    ensures { λ _. ⌜ now (map .exit) ≡ padded 0 (length (now (map .entry))) (recordMap (now (bytes .entry))) ⌝ }
+{
+    let from = at.map;
+    let to = at.soft;
+    let k = to - from;
+    copy(&bytes[from..to], &mut map[..k]);
+    fill_bytes(map, k);
+}
+
+// As many soft values as `soft` has places, from a place of the record on.
+fn copy_soft(bytes: &[u8], at: usize, soft: &mut [i16])
+    requires { ⌜ (length (now soft) ≤ 1024) × (at + 2 * length (now soft) ≤ length (now bytes)) ⌝ }
+    ensures { λ _. ⌜ now (soft .exit) ≡ softFrom (now (bytes .entry)) at (length (now (soft .entry))) ⌝ }
+{
+    let mut i = 0;
+    while i < soft.len() {
+        soft[i] = soft_value(bytes, at + 2 * i);
+        i += 1;
+    }
+}
+
+pub(crate) fn write_soft(bytes: &[u8], at: Layout, soft: &mut [i16])
+    requires { ⌜ (Laid (now bytes) at) × (positions (now bytes) ≤ length (now soft)) ⌝ }
+    ensures { λ _. ⌜ now (soft .exit) ≡ padded (pos 0) (length (now (soft .entry))) (recordSoft (now (bytes .entry))) ⌝ }
+{
+    let n = at.n;
+    copy_soft(bytes, at.soft, &mut soft[..n]);
+    fill_soft(soft, n);
+}

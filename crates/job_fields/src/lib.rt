@@ -1,0 +1,13 @@
+// The parts of a job record: where they lie, and what its fields and soft values say.
+mod fields;
+mod layout;
+mod numbers;
+
+pub use fields::frame_number;
+pub use fields::list_size;
+pub use fields::stop_position;
+pub use layout::Layout;
+pub use layout::locate;
+pub use layout::map_at;
+pub use numbers::soft_value;
+pub use numbers::wide;

@@ -1,0 +1,44 @@
+// Numbers of one, two and four bytes, low byte first, and a soft value: two bytes read as a signed number.
+ghost use mathlib.Core.Path.{_≡_};
+ghost use Prim.Native.Nat.{_+_, _<_};
+ghost use lib.ListN.{length};
+ghost use Rattle.spec.specs.Record.{twoAt, fourAt, signed16};
+
+pub fn wide(x: u8) -> u32
+    ensures { λ r. ⌜ (r ≡ x) × (r < 256) ⌝ }
+{
+    x as u32
+}
+
+pub(crate) fn two(bytes: &[u8], at: usize) -> u32
+    requires { ⌜ at + 1 < length (now bytes) ⌝ }
+    ensures { λ r. ⌜ (r ≡ twoAt (now (bytes .entry)) at) × (r < 65536) ⌝ }
+{
+    wide(bytes[at]) + 256 * wide(bytes[at + 1])
+}
+
+pub(crate) fn four(bytes: &[u8], at: usize) -> u32
+    requires { ⌜ at + 3 < length (now bytes) ⌝ }
+    ensures { λ r. ⌜ r ≡ fourAt (now (bytes .entry)) at ⌝ }
+{
+    two(bytes, at) + 65536 * two(bytes, at + 2)
+}
+
+// The low half of the numbers of 16 bits stays as it is, the high half lies below 0.
+fn signed(x: u32) -> i16
+    requires { ⌜ x < 65536 ⌝ }
+    ensures { λ r. ⌜ r ≡ signed16 x ⌝ }
+{
+    if x < 32768 {
+        x as i16
+    } else {
+        -1 - ((65535 - x) as i16)
+    }
+}
+
+pub fn soft_value(bytes: &[u8], at: usize) -> i16
+    requires { ⌜ at + 1 < length (now bytes) ⌝ }
+    ensures { λ r. ⌜ r ≡ signed16 (twoAt (now (bytes .entry)) at) ⌝ }
+{
+    signed(two(bytes, at))
+}

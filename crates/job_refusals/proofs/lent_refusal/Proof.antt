@@ -1,0 +1,67 @@
+-- `job_refusals::lent_refusal` meets its contract: at each `return` the tests that were passed, and the one that was not. Assumes nothing.
+use mathlib.Core.Path.{_≡_, refl, sym, ap, ap₂, _∙_}
+use mathlib.Core.Bool.{Bool, true, false, _||_, true≢false}
+use mathlib.Core.List.{List, [], _∷_}
+use Prim.Native.Nat.{ℕ}
+use borrow.Author.Needs.{needs}
+use lib.Dec.{ltb}
+use Rattle.spec.specs.Code.{mapBytes}
+use Rattle.spec.specs.Faults.{Fault, fault, some}
+use Rattle.spec.specs.Refusals.{tooLarge}
+use Rattle.spec.specs.Record.{positions, softFrom, recordSoft}
+use Rattle.laws.specs.FirstFault.{First, none, here, later, is-first}
+use Rattle.job_refusals.specs.Conditions.{lentFaults}
+use Rattle.job_refusals.proofs.lent_refusal.Statement.{statement}
+use Rattle.job_refusals.proofs.lent_refusal.Tie as tie
+
+-- two conditions of one number
+one-of : {k : ℕ} (a b : Bool) → (a || b) ≡ true → First (fault k a ∷ fault k b ∷ []) k
+one-of true b e = here refl
+one-of false b e = later refl (here e)
+
+neither : {k : ℕ} (a b : Bool) → (a || b) ≡ false → First (fault k a ∷ fault k b ∷ []) 0
+neither true b e = absurd (true≢false e)
+neither false b e = later refl (later e none)
+
+abbrev start : tie.After-too-short → tie.Start
+start c = c .before .before .before
+
+abbrev given : tie.After-too-short → List ℕ
+given c = start c .args .bytes .now
+
+abbrev table : tie.After-too-short → List Fault
+table c = lentFaults (given c) (start c .args .maps) (start c .args .softs)
+
+-- what was tested
+large-is : (c : tie.After-too-short) → c .before .some-too-large .result ≡ some tooLarge (recordSoft (given c))
+large-is c =
+    let w = start c .pre in
+    c .before .some-too-large .ensures ∙ ap (some tooLarge) (ap₂ (softFrom (given c)) (w .soft-begins) (w .n-is))
+
+short-is : (c : tie.After-too-short) → c .too-short .result ≡ (ltb (start c .args .maps) (mapBytes (positions (given c))) || ltb (start c .args .softs) (positions (given c)))
+short-is c =
+    let a = start c .args in
+    c .too-short .ensures ∙ ap (λ (n : ℕ). ltb (a .maps) (mapBytes n) || ltb (a .softs) n) (start c .pre .n-is)
+
+some-too-large-requires : tie.Need-some-too-large-requires
+some-too-large-requires c κs = search needs
+
+too-short-requires : tie.Need-too-short-requires
+too-short-requires c κs = search needs
+
+returns : tie.Need-returns
+returns c = is-first (table (c .before)) 7 (here (sym (large-is (c .before)) ∙ c .if1 .taken))
+
+returns-2 : tie.Need-returns-2
+returns-2 c =
+    let t = c .before .before in
+    is-first (table t) 10 (later (sym (large-is t) ∙ c .before .if1 .left) (one-of _ _ (sym (short-is t) ∙ c .if2 .taken)))
+
+returns-3 : tie.Need-returns-3
+returns-3 c =
+    let t = c .before .before in
+    is-first (table t) 0 (later (sym (large-is t) ∙ c .before .if1 .left) (neither _ _ (sym (short-is t) ∙ c .if2 .left)))
+
+pub lent-refusal-spec : {M : Type 1} → statement M
+lent-refusal-spec =
+    tie.close (tie.spec some-too-large-requires too-short-requires returns returns-2 returns-3)

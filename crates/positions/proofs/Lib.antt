@@ -1,0 +1,7 @@
+mod Choosing
+mod Parents
+mod Fitting
+mod Stepping
+mod Advancing
+mod Starting
+mod Looping

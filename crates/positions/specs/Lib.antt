@@ -1,0 +1,3 @@
+pub mod History
+pub mod Position
+pub mod Running

@@ -1,0 +1,6 @@
+// The positions of a block, one after the other, for all live paths together, in tables that the caller lends.
+mod block;
+mod history;
+mod position;
+
+pub use block::positions;

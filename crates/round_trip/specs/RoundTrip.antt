@@ -1,0 +1,140 @@
+-- Theorems of the encoder and the extractor, over the outcomes of their calls, with no code in scope: what they do to each other's
+-- results, which words the extractor refuses with 12, and what a refused call writes.
+use mathlib.Core.Path.{_≡_, refl, sym, ap, _∙_}
+use mathlib.Core.Bool.{Bool, true, false, true≢false}
+use mathlib.Core.List.{List, []}
+use Prim.Native.Nat.{ℕ, zero, suc, _-_, _≤_}
+use native.Mathlib.Omega.{arith}
+use lib.ListN.{length, take, replicate}
+use lib.Seq.{take-at}
+use Rattle.spec.specs.Bits.{Bits}
+use Rattle.spec.specs.Transform.{transform}
+use Rattle.spec.specs.Code.{Code, size, frozen, payloadSize, spread, gathered, broken, encoded, inputOf, extracted}
+use Rattle.spec.specs.Faults.{first, settled}
+use Rattle.spec.specs.Refusals.{extractFaults}
+use Rattle.spec.specs.Outcome.{padded, Written, written, encodeRefusal, encodeOutcome, extractRefusal, extractOutcome}
+use Rattle.laws.specs.FirstFault.{First, none, here, later, is-first, of-first, first-after}
+use Rattle.laws.specs.FrozenMap.{length-spread, length-gathered, gathered-spread, broken-spread, spread-gathered, bits-spread, bits-gathered}
+use Rattle.laws.specs.Accepted.{Accepted, accepted-of, flag-count}
+use Rattle.laws.specs.Layer.{length-transform}
+use Rattle.laws.specs.Inverse.{inverse-transform, transform-inverse, bits-transform, bits-inverse, length-inverse}
+use Rattle.code.specs.Given.{Given, givenFaults, given-numbers, given-of}
+use Rattle.encoder.specs.EncodeCall.{encodes, encode-accepted, encode-served}
+use Rattle.extractor.specs.ExtractCall.{inputFaults, extracts, extract-accepted, extract-served}
+
+-- ---- a payload of bits and its word
+module _ {c : Code} (a : Accepted c) {p : List ℕ} (t : Bits p) where
+  long-input : length (spread (frozen c) p) ≡ size c
+  long-input = length-spread (frozen c) p ∙ flag-count a
+
+  input-of-encoded : inputOf c (encoded c p) ≡ spread (frozen c) p
+  unfolding encoded inputOf
+  input-of-encoded = inverse-transform (c .m) (spread (frozen c) p) (bits-spread (frozen c) t) long-input
+
+  pub encoded-intact : broken (frozen c) (inputOf c (encoded c p)) ≡ false
+  encoded-intact = ap (broken (frozen c)) input-of-encoded ∙ broken-spread (frozen c) p
+
+  pub encoded-given : Given c (size c) (encoded c p)
+  unfolding encoded
+  encoded-given = record { accepts = a; long = length-transform (c .m) (spread (frozen c) p) long-input; bits = bits-transform (c .m) (bits-spread (frozen c) t) }
+
+  pub extracted-encoded : length p ≡ payloadSize c → extracted c (encoded c p) ≡ p
+  unfolding extracted
+  extracted-encoded e = ap (gathered (frozen c)) input-of-encoded ∙ gathered-spread (frozen c) p e
+
+-- ---- a word of n bits and its payload
+module _ {c : Code} {w : List ℕ} (g : Given c (size c) w) where
+  flags-of-input : length (inputOf c w) ≡ length (frozen c)
+  unfolding inputOf
+  flags-of-input = length-inverse (c .m) w (g .long) ∙ sym (flag-count (g .accepts))
+
+  pub extracted-given : Given c (payloadSize c) (extracted c w)
+  unfolding extracted inputOf
+  extracted-given = record {
+    accepts = g .accepts;
+    long = length-gathered (frozen c) (inputOf c w) flags-of-input;
+    bits = bits-gathered (frozen c) (bits-inverse (c .m) (g .bits));
+  }
+
+  pub encoded-extracted : broken (frozen c) (inputOf c w) ≡ false → encoded c (extracted c w) ≡ w
+  unfolding encoded extracted inputOf
+  encoded-extracted b =
+      ap (transform (c .m)) (spread-gathered (frozen c) (inputOf c w) flags-of-input b) ∙ transform-inverse (c .m) w (g .bits) (g .long)
+
+-- ---- the calls, one after the other
+-- the front of what a call wrote
+front : (w out : List ℕ) (n : ℕ) (o : Written) → written 0 (padded 0 (length out) w) ≡ o → length w ≡ n → take n (o .output) ≡ w
+front w out n o e l = ap (λ (o : Written). take n (o .output)) (sym e) ∙ take-at w (replicate (length out - length w) 0) n l
+
+-- the word of an accepted payload, given to the extractor with room for k bytes, is accepted and gives the payload
+pub extract-after-encode : (c : Code) (payload out back : List ℕ) → encodeRefusal c payload (length out) ≡ 0 → payloadSize c ≤ length back
+    → extractOutcome c (take (size c) (encodeOutcome c payload out .output)) back ≡ written 0 (padded 0 (length back) payload)
+extract-after-encode c payload out back e h =
+    let g : Given c (payloadSize c) payload = encodes c payload (length out) e .0 in
+    let w : List ℕ = encoded c payload in
+    let x : Given c (size c) w = encoded-given (g .accepts) (g .bits) in
+    let z : extractRefusal c w (length back) ≡ 0 = extract-accepted c w (length back) x (encoded-intact (g .accepts) (g .bits)) h in
+    ap (λ (l : List ℕ). extractOutcome c l back) (front w out (size c) (encodeOutcome c payload out) (encode-served c payload out (sym e)) (x .long))
+    ∙ sym (extract-served c w back (sym z))
+    ∙ ap (λ (l : List ℕ). written 0 (padded 0 (length back) l)) (extracted-encoded (g .accepts) (g .bits) (g .long))
+
+-- the payload of an accepted word, given to the encoder with room for n bytes, is accepted and gives the word
+pub encode-after-extract : (c : Code) (word out back : List ℕ) → extractRefusal c word (length out) ≡ 0 → size c ≤ length back
+    → encodeOutcome c (take (payloadSize c) (extractOutcome c word out .output)) back ≡ written 0 (padded 0 (length back) word)
+encode-after-extract c word out back e h =
+    let x = extracts c word (length out) e in
+    let g : Given c (size c) word = x .0 in
+    let p : List ℕ = extracted c word in
+    let q : Given c (payloadSize c) p = extracted-given g in
+    ap (λ (l : List ℕ). encodeOutcome c l back) (front p out (payloadSize c) (extractOutcome c word out) (extract-served c word out (sym e)) (q .long))
+    ∙ sym (encode-served c p back (sym (encode-accepted c p (length back) q h)))
+    ∙ ap (λ (l : List ℕ). written 0 (padded 0 (length back) l)) (encoded-extracted g (x .1))
+
+-- ---- the words of the code
+-- a payload of k bits has this code word
+pub record CodeWord (c : Code) (word : List ℕ) : Type 0 where
+  pub payload : List ℕ
+  pub long : length payload ≡ payloadSize c
+  pub bits : Bits payload
+  pub gives : encoded c payload ≡ word
+
+-- where 1, 2, 3, 6 and 11 do not apply, a word that is no code word is refused with 12
+pub outside-refused : (c : Code) (word : List ℕ) (room : ℕ) → first (givenFaults c (size c) word) ≡ 0 → (CodeWord c word → ⊥) → extractRefusal c word room ≡ 12
+unfolding extractRefusal
+outside-refused c word room e n = by-test (broken (frozen c) (inputOf c word)) refl
+  where
+    by-test : (b : Bool) → broken (frozen c) (inputOf c word) ≡ b → first (extractFaults c word room) ≡ 12
+    by-test true i =
+        sym (first-after (givenFaults c (size c) word) (inputFaults c (inputOf c word) room) 0 (sym e) (given-numbers c (size c) word) refl 12
+        (is-first (inputFaults c (inputOf c word) room) 12 (here i)))
+    by-test false i =
+        let g : Given c (size c) word = given-of (of-first (givenFaults c (size c) word) 0 (sym e)) in
+        let q : Given c (payloadSize c) (extracted c word) = extracted-given g in
+        absurd (n (record { payload = extracted c word; long = q .long; bits = q .bits; gives = encoded-extracted g i }))
+
+-- and what is refused with 12 is no code word
+not-intact : (c : Code) (word : List ℕ) (room : ℕ) → First (extractFaults c word room) 12 → Accepted c × (broken (frozen c) (inputOf c word) ≡ true)
+unfolding first
+not-intact c word room (later a (later b (later d (later l (later t (here e)))))) = (accepted-of (later a (later b (later d none))), e)
+not-intact c word room (later a (later b (later d (later l (later t (later i (later r f))))))) = absurd (omega (arith, is-first [] 12 f))
+
+pub refused-outside : (c : Code) (word : List ℕ) (room : ℕ) → extractRefusal c word room ≡ 12 → CodeWord c word → ⊥
+unfolding extractRefusal
+refused-outside c word room e w =
+    let b = not-intact c word room (of-first (extractFaults c word room) 12 (sym e)) in
+    true≢false (sym (b .1) ∙ ap (λ (l : List ℕ). broken (frozen c) (inputOf c l)) (sym (w .gives)) ∙ encoded-intact (b .0) (w .bits))
+
+-- ---- a call that is refused leaves its output as it was lent
+settled-leaves : (r : ℕ) (out : List ℕ) (s : Written) → s .number ≡ 0 → (settled r (λ k. written k out) s .number ≡ 0 → ⊥) → settled r (λ k. written k out) s .output ≡ out
+settled-leaves zero out s e n = absurd (n e)
+settled-leaves (suc k) out s e n = refl
+
+pub encode-refused-writes-nothing : (c : Code) (payload out : List ℕ) → (encodeOutcome c payload out .number ≡ 0 → ⊥) → encodeOutcome c payload out .output ≡ out
+unfolding encodeOutcome
+encode-refused-writes-nothing c payload out =
+    settled-leaves (encodeRefusal c payload (length out)) out (written 0 (padded 0 (length out) (encoded c payload))) refl
+
+pub extract-refused-writes-nothing : (c : Code) (word out : List ℕ) → (extractOutcome c word out .number ≡ 0 → ⊥) → extractOutcome c word out .output ≡ out
+unfolding extractOutcome
+extract-refused-writes-nothing c word out =
+    settled-leaves (extractRefusal c word (length out)) out (written 0 (padded 0 (length out) (extracted c word))) refl

@@ -1,0 +1,45 @@
+-- What the program writes: 01, "The program's output". Every line ends with a line feed.
+use mathlib.Core.List.{List, [], _∷_, _++_}
+use Prim.Native.Nat.{ℕ, zero, suc, _+_}
+use lib.ListN.{take, drop, getD}
+use lib.IntN.{ℤ, pos}
+use Rattle.text.specs.BitText.{bitText}
+use Rattle.text.specs.Decimal.{decimal, signedDecimal}
+
+-- `refused `, `frame `, ` rows `
+abbrev pub refusedWord : List ℕ
+refusedWord = 114 ∷ 101 ∷ 102 ∷ 117 ∷ 115 ∷ 101 ∷ 100 ∷ 32 ∷ []
+
+abbrev pub frameWord : List ℕ
+frameWord = 102 ∷ 114 ∷ 97 ∷ 109 ∷ 101 ∷ 32 ∷ []
+
+abbrev pub rowsWord : List ℕ
+rowsWord = 32 ∷ 114 ∷ 111 ∷ 119 ∷ 115 ∷ 32 ∷ []
+
+abbrev pub space : List ℕ
+space = 32 ∷ []
+
+abbrev pub lineFeed : List ℕ
+lineFeed = 10 ∷ []
+
+-- a refusal: `refused`, one space and the number
+unfoldable pub refusedText : ℕ → List ℕ
+refusedText k = (refusedWord ++ decimal k) ++ lineFeed
+
+-- line one: frame number and row count
+unfoldable pub frameLine : ℕ → ℕ → List ℕ
+frameLine frame rows = (frameWord ++ decimal frame) ++ (rowsWord ++ decimal rows) ++ lineFeed
+
+-- a row: rank, score, input bits, code bits
+unfoldable pub rowLine : ℕ → ℤ → List ℕ → List ℕ → List ℕ
+rowLine rank score input word = (decimal rank ++ space ++ signedDecimal score) ++ (space ++ bitText input ++ space ++ bitText word) ++ lineFeed
+
+-- the lines of k rows from a rank on, whose n input bits, n code bits and score stand at the front of each list
+unfoldable pub rowLines : ℕ → ℕ → ℕ → List ℕ → List ℕ → List ℤ → List ℕ
+rowLines n rank zero inputs words scores = []
+rowLines n rank (suc k) inputs words scores =
+    rowLine rank (getD scores 0 (pos 0)) (take n inputs) (take n words) ++ rowLines n (rank + 1) k (drop n inputs) (drop n words) (drop 1 scores)
+
+-- all that is written for a record that is decoded
+unfoldable pub outputOf : ℕ → ℕ → ℕ → List ℕ → List ℕ → List ℤ → List ℕ
+outputOf frame rows n inputs words scores = frameLine frame rows ++ rowLines n 0 rows inputs words scores

@@ -1,0 +1,64 @@
+-- The text of the paper decoder's rows, with no slice in sight, and that the program writes it from what a served decoder call leaves.
+-- Beside it the sample of 01, "The program's output".
+use mathlib.Core.Path.{_≡_, refl, ap, _∙_}
+use mathlib.Core.List.{List, [], _∷_, _++_, map, append-assoc}
+use Prim.Native.Nat.{ℕ, _+_, _-_, _^_, _≤_}
+use native.Mathlib.Omega.{arith}
+use lib.ListN.{length, take, drop, replicate, length-append, length-replicate}
+use lib.Seq.{take-at, drop-at}
+use lib.IntN.{ℤ}
+use Rattle.spec.specs.Code.{Code, size, codeTransform}
+use Rattle.spec.specs.Decoder.{Row, rowOf, live, rows}
+use Rattle.spec.specs.Refusals.{Room}
+use Rattle.spec.specs.Outcome.{concat, Lent, decodedRows, decodeServed}
+use Rattle.laws.specs.Layer.{length-transform}
+use Rattle.laws.specs.ListCost.{All, none, more, Long, live-long}
+use Rattle.row_text.specs.Output.{frameLine, rowLine, rowLines, outputOf}
+
+-- a line for each row by rank, behind line one
+unfoldable pub linesOf : ℕ → List Row → List ℕ
+linesOf rank [] = []
+linesOf rank (r ∷ rs) = rowLine rank (r .score) (r .input) (r .word) ++ linesOf (rank + 1) rs
+
+unfoldable pub textOf : ℕ → List Row → List ℕ
+textOf frame rs = frameLine frame (length rs) ++ linesOf 0 rs
+
+-- ---- rows of n bits, one behind the other, are found again
+abbrev pub Wide : ℕ → Row → Type 0
+Wide n r = (length (r .input) ≡ n) × (length (r .word) ≡ n)
+
+first-part : (x xs a : List ℕ) (n : ℕ) → length x ≡ n → (take n ((x ++ xs) ++ a) ≡ x) × (drop n ((x ++ xs) ++ a) ≡ xs ++ a)
+first-part x xs a n e = (rw (append-assoc x xs a) (take-at x (xs ++ a) n e), rw (append-assoc x xs a) (drop-at x (xs ++ a) n e))
+
+lines-back : (n rank : ℕ) (rs : List Row) → All (Wide n) rs → (a b : List ℕ) (d : List ℤ)
+    → rowLines n rank (length rs) (concat (map (λ (r : Row). r .input) rs) ++ a) (concat (map (λ (r : Row). r .word) rs) ++ b) (map (λ (r : Row). r .score) rs ++ d)
+    ≡ linesOf rank rs
+unfolding rowLines linesOf
+lines-back n rank [] none a b d = refl
+lines-back n rank (r ∷ rs) (more w all) a b d =
+    let i = first-part (r .input) (concat (map (λ (r : Row). r .input) rs)) a n (w .0) in
+    let o = first-part (r .word) (concat (map (λ (r : Row). r .word) rs)) b n (w .1) in
+    rw (i .0, i .1, o .0, o .1) (ap (λ (l : List ℕ). rowLine rank (r .score) (r .input) (r .word) ++ l) (lines-back n (rank + 1) rs all a b d))
+
+-- rows in slices of any lengths, as a decoder call leaves them
+pub output-of-rows : (frame n : ℕ) (rs : List Row) → All (Wide n) rs → (r : Room) → let x : Lent = decodedRows r rs .left in
+    outputOf frame (length rs) n (x .inputs) (x .words) (x .scores) ≡ textOf frame rs
+unfolding outputOf textOf
+output-of-rows frame n rs w r = ap (λ (l : List ℕ). frameLine frame (length rs) ++ l) (lines-back n 0 rs w _ _ _)
+
+-- ---- the paper decoder's rows have n bits
+module _ (c : Code) (y : List ℤ) (l p : ℕ) (h : p ≤ size c) where
+  wide : (ws : List (List ℕ)) → All (Long p) ws → All (Wide (size c)) (map (rowOf (codeTransform c) c y l) ws)
+  wide [] none = none
+  wide (w ∷ ws) (more e all) =
+      let u : List ℕ = w ++ replicate (size c - length w) 0 in
+      let long : length u ≡ 2 ^ c .m
+      = length-append w (replicate (size c - length w) 0) ∙ ap (λ (k : ℕ). length w + k) (length-replicate (size c - length w) 0) ∙ omega (arith, e) in
+      more (long, length-transform (c .m) u long) (wide ws all)
+
+  -- what is written from a served call is the text of the paper decoder's rows
+  pub output-of-served : (frame : ℕ) (r : Room) → let x : Lent = decodeServed c l p y r .left in
+      outputOf frame (length (rows (codeTransform c) c y l p)) (size c) (x .inputs) (x .words) (x .scores) ≡ textOf frame (rows (codeTransform c) c y l p)
+  unfolding decodeServed rows
+  output-of-served frame r =
+      output-of-rows frame (size c) (rows (codeTransform c) c y l p) (wide (live (codeTransform c) c y l p) (live-long (codeTransform c) c y l p)) r

@@ -1,0 +1,75 @@
+-- `run_examples::decoding::decode_line` is safe: the lists lent are as long as they were read. Assumes nothing.
+use lib.ListN.{length}
+use lib.Seq.{length-take-le}
+use native.Mathlib.Omega.{arith}
+use mathlib.Core.Path.{_≡_, sym}
+use borrow.Author.Needs.{needs}
+use Rattle.run_examples.proofs.decoding.decode_line.Statement.{statement}
+use Rattle.run_examples.proofs.decoding.decode_line.Tie as tie
+
+slice-aggregate-read-fields : tie.Need-slice-aggregate-read-fields
+slice-aggregate-read-fields c = search needs
+
+read-fields-requires : tie.Need-read-fields-requires
+read-fields-requires c κs = tt
+
+slice-aggregate-read-bytes : tie.Need-slice-aggregate-read-bytes
+slice-aggregate-read-bytes c = search needs
+
+read-bytes-requires : tie.Need-read-bytes-requires
+read-bytes-requires c κs = tt
+
+slice-aggregate-read-soft : tie.Need-slice-aggregate-read-soft
+slice-aggregate-read-soft c = search needs
+
+read-soft-requires : tie.Need-read-soft-requires
+read-soft-requires c κs = tt
+
+array-share-prefix-map : tie.Need-array-share-prefix-map
+array-share-prefix-map c = search needs
+
+slice-aggregate-decode-asked : tie.Need-slice-aggregate-decode-asked
+slice-aggregate-decode-asked c =
+    let o = c .before .before .before .before .before .read-bytes in
+    let k : length (o .last .1 .1 .0) ≡ 2 = o .kept .1 .1 .0 in
+    sym (length-take-le (o .result .len) (o .last .1 .1 .0) (omega (arith, o .ensures)))
+
+array-share-prefix-soft : tie.Need-array-share-prefix-soft
+array-share-prefix-soft c = search needs
+
+slice-aggregate-decode-asked-2 : tie.Need-slice-aggregate-decode-asked-2
+slice-aggregate-decode-asked-2 c =
+    let o = c .before .before .before .read-soft in
+    let k : length (o .last .1 .1 .0) ≡ 16 = o .kept .1 .1 .0 in
+    sym (length-take-le (o .result) (o .last .1 .1 .0) (omega (arith, o .ensures)))
+
+slice-aggregate-read-asked : tie.Need-slice-aggregate-read-asked
+slice-aggregate-read-asked c = search needs
+
+read-asked-requires : tie.Need-read-asked-requires
+read-asked-requires c κs = search needs
+
+decode-asked-requires : tie.Need-decode-asked-requires
+decode-asked-requires c κs = search needs
+
+returns : tie.Need-returns
+returns c = tt
+
+pub decode-line-spec : {M : Type 1} → statement M
+decode-line-spec =
+    tie.close
+    (tie.spec
+    slice-aggregate-read-fields
+    read-fields-requires
+    slice-aggregate-read-bytes
+    read-bytes-requires
+    slice-aggregate-read-soft
+    read-soft-requires
+    array-share-prefix-map
+    slice-aggregate-decode-asked
+    array-share-prefix-soft
+    slice-aggregate-decode-asked-2
+    slice-aggregate-read-asked
+    read-asked-requires
+    decode-asked-requires
+    returns)

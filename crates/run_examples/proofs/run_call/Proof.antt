@@ -1,0 +1,36 @@
+-- `run_examples::run_call` is safe. Assumes nothing.
+use Rattle.run_examples.proofs.run_call.Statement.{statement}
+use Rattle.run_examples.proofs.run_call.Tie as tie
+
+byte-at-requires : tie.Need-byte-at-requires
+byte-at-requires c κs = tt
+
+word-end-requires : tie.Need-word-end-requires
+word-end-requires c κs = tt
+
+decode-line-requires : tie.Need-decode-line-requires
+decode-line-requires c κs = tt
+
+code-line-requires : tie.Need-code-line-requires
+code-line-requires c κs = tt
+
+returns : tie.Need-returns
+returns c = tt
+
+returns-2 : tie.Need-returns-2
+returns-2 c = tt
+
+returns-3 : tie.Need-returns-3
+returns-3 c = tt
+
+pub run-call-spec : {M : Type 1} → statement M
+run-call-spec =
+    tie.close
+    (tie.spec
+    byte-at-requires
+    word-end-requires
+    decode-line-requires
+    code-line-requires
+    returns
+    returns-2
+    returns-3)
