@@ -15,7 +15,7 @@ use Rattle.spec.specs.Faults.{Fault, fault, first, settled}
 use Rattle.spec.specs.Refusals.{Room, room, decodeFaults}
 use Rattle.spec.specs.Outcome.{Answer, rowCount, refusedBy, Lent, lent, roomOf, Decoding, decoding, decodeRefusal, decodeServed, decodeOutcome}
 use Rattle.laws.specs.FirstFault.{First, of-first}
-use Rattle.decoder.specs.RowsAtMost.{stop-in-range, rows-at-most}
+use Rattle.laws.specs.DecodeCall.{stop-in-range, rows-at-most}
 use Rattle.row_text.specs.Output.{refusedText, outputOf}
 use Rattle.row_text.specs.RowsText.{textOf, output-of-served}
 

@@ -12,7 +12,7 @@ use Rattle.spec.specs.Faults.{Fault, fault, first, settled}
 use Rattle.spec.specs.Refusals.{Room, decodeFaults}
 use Rattle.spec.specs.Outcome.{Answer, rowCount, refusedBy, Lent, roomOf, Decoding, decoding, decodedRows, decodeRefusal, decodeServed, decodeOutcome}
 use Rattle.laws.specs.FirstFault.{First, of-first}
-use Rattle.decoder.specs.RowsAtMost.{list-in-range, rows-at-most}
+use Rattle.laws.specs.DecodeCall.{list-in-range, rows-at-most}
 
 -- the rows, or minus the refusal number
 abbrev pub numberOf : Answer → ℤ

@@ -10,7 +10,7 @@ use Rattle.spec.specs.Faults.{first, some}
 use Rattle.spec.specs.Refusals.{pastEnd}
 use Rattle.spec.specs.Record.{softFrom}
 use Rattle.spec.specs.Score.{largest, score}
-use Rattle.spec.specs.Decoder.{children, live, rows}
+use Rattle.spec.specs.Decoder.{children, liveBy, rows}
 use Rattle.job.specs.Sample.{sample}
 use Rattle.text.specs.BitText.{bitText}
 use Rattle.text.specs.Decimal.{digits, decimal}
@@ -24,7 +24,7 @@ pub sample-output : programOutput sample ≡
     ∷ 48 ∷ 32 ∷ 49 ∷ 51 ∷ 32 ∷ 48 ∷ 48 ∷ 49 ∷ 48 ∷ 32 ∷ 48 ∷ 49 ∷ 49 ∷ 48 ∷ 10
     ∷ 49 ∷ 32 ∷ 49 ∷ 49 ∷ 32 ∷ 48 ∷ 48 ∷ 48 ∷ 48 ∷ 32 ∷ 48 ∷ 48 ∷ 48 ∷ 48 ∷ 10
     ∷ []
-unfolding sample programOutput textOf linesOf frameLine rowLine bitText decimal digits rows live children score largest transform frozen unpacked bitsOf first some pastEnd softFrom
+unfolding sample programOutput textOf linesOf frameLine rowLine bitText decimal digits rows liveBy children score largest transform frozen unpacked bitsOf first some pastEnd softFrom
 sample-output = refl
 
 -- an empty input, one that begins with 08, one of 4,097 bytes that begins so, and a good record of four positions and five rows

@@ -9,7 +9,7 @@ use Rattle.spec.specs.Code.{Code}
 use Rattle.spec.specs.Faults.{settled}
 use Rattle.spec.specs.Refusals.{Room}
 use Rattle.spec.specs.Outcome.{Answer, refusedBy, Lent, roomOf, Decoding, decoding, decodeRefusal, decodeServed, decodeOutcome}
-use Rattle.laws.specs.FirstFault.{settled-served}
+use Rattle.laws.specs.DecodeCall.{AcceptedCall, accepted-is}
 
 -- what a host gets: the answer and the three outputs
 pub record Received : Type 0 where
@@ -31,22 +31,15 @@ module _ (c : Code) (l p : ℕ) (soft : List ℤ) where
   abbrev pub outcome : Lent → Decoding
   outcome = decodeOutcome c l p soft
 
-  abbrev pub AcceptedCall : Lent → Type 0
-  AcceptedCall x = decodeRefusal c l p soft (roomOf x) ≡ 0
-
-  accepted-is : (x : Lent) → AcceptedCall x → outcome x ≡ decodeServed c l p soft (roomOf x)
-  unfolding decodeOutcome
-  accepted-is x e = sym (settled-served (λ k. decoding (refusedBy k) x) (decodeServed c l p soft (roomOf x)) (decodeRefusal c l p soft (roomOf x)) (sym e))
-
   alike : (x x′ : Lent) → AsLong x x′ → received (decodeServed c l p soft (roomOf x)) ≡ received (decodeServed c l p soft (roomOf x′))
   unfolding decodeServed
   alike x x′ long = rw (long .inputs, long .words, long .scores)
 
   -- Two accepted calls that agree on code, list size, stop position and soft values, and whose outputs are equally long, give the
   -- same answer and the same outputs, whatever tables were lent and whatever tables and outputs held before.
-  pub same-block-same-rows : (x x′ : Lent) → AsLong x x′ → AcceptedCall x → AcceptedCall x′ → received (outcome x) ≡ received (outcome x′)
+  pub same-block-same-rows : (x x′ : Lent) → AsLong x x′ → AcceptedCall c l p soft x → AcceptedCall c l p soft x′ → received (outcome x) ≡ received (outcome x′)
   same-block-same-rows x x′ long a a′ =
-      ap received (accepted-is x a) ∙ alike x x′ long ∙ ap received (sym (accepted-is x′ a′))
+      ap received (accepted-is c l p soft x a) ∙ alike x x′ long ∙ ap received (sym (accepted-is c l p soft x′ a′))
 
   -- Whether a call is accepted, and its answer, depend on the lengths of what is lent and not on what that holds.
   pub same-lengths-same-answer : (x x′ : Lent) → roomOf x ≡ roomOf x′ → outcome x .answer ≡ outcome x′ .answer
@@ -61,13 +54,13 @@ module _ (c : Code) (l p : ℕ) (soft : List ℤ) where
       answer-of (suc k) x s = refl
 
   -- After an accepted call both tables are 0 to their last place: they hold nothing of it.
-  pub tables-left-zero : (x : Lent) → AcceptedCall x
+  pub tables-left-zero : (x : Lent) → AcceptedCall c l p soft x
       → (outcome x .left .numbers ≡ replicate (length (x .numbers)) 0) × (outcome x .left .bytes ≡ replicate (length (x .bytes)) 0)
   unfolding decodeServed
-  tables-left-zero x a = (ap (λ (o : Decoding). o .left .numbers) (accepted-is x a), ap (λ (o : Decoding). o .left .bytes) (accepted-is x a))
+  tables-left-zero x a = (ap (λ (o : Decoding). o .left .numbers) (accepted-is c l p soft x a), ap (λ (o : Decoding). o .left .bytes) (accepted-is c l p soft x a))
 
   -- A refused call leaves everything that it was lent as it was.
-  pub refused-writes-nothing : (x : Lent) → (AcceptedCall x → ⊥) → outcome x .left ≡ x
+  pub refused-writes-nothing : (x : Lent) → (AcceptedCall c l p soft x → ⊥) → outcome x .left ≡ x
   unfolding decodeOutcome
   refused-writes-nothing x n = left-of (decodeRefusal c l p soft (roomOf x)) n
     where

@@ -1,5 +1,4 @@
 pub mod Serving
 pub mod Answers
 pub mod Isolation
-pub mod RowsAtMost
 pub mod ScoreRange

@@ -14,3 +14,5 @@ pub mod FirstFault
 pub mod MapBits
 pub mod FrozenMap
 pub mod Accepted
+pub mod DecodeCall
+pub mod ScoreOfChildren

@@ -13,7 +13,7 @@ use Rattle.spec.specs.Bits.{Bits, nil}
 use Rattle.spec.specs.Transform.{transform}
 use Rattle.spec.specs.Code.{Code, size, frozen, codeTransform}
 use Rattle.spec.specs.Score.{score}
-use Rattle.spec.specs.Decoder.{insertBy, sortBy, lexBefore, ahead, continued, children, families, live, scoreOf}
+use Rattle.spec.specs.Decoder.{insertBy, sortBy, lexBefore, ahead, continued, children, families, liveBy, live, scoreOf}
 use Rattle.laws.specs.BitLaws.{bits-snoc}
 use Rattle.laws.specs.Cost.{cost, magnitude}
 use Rattle.laws.specs.ScoreCost.{leZ-sub, score-is}
@@ -85,6 +85,30 @@ module _ (m : ℕ) (y : List ℤ) (ey : length y ≡ 2 ^ m) where
       (leZ-sub s (2 * cost m y w) (2 * cost m y v) ∙ leb-twice (cost m y v) (cost m y w))
       ∙ ap (λ (a : Bool). a || (leb (cost m y v) (cost m y w) && lexBefore v w)) (not-leb (cost m y v) (cost m y w))
 
+-- ---- a list search: what every child has from its parent, every live prefix has
+pub families-all : {P Q : List ℕ → Type 0} (f : List ℕ → List (List ℕ)) → ((w : List ℕ) → P w → All Q (f w)) → {ws : List (List ℕ)} → All P ws → All Q (families f ws)
+families-all f h none = none
+families-all f h (more {x = w} p a) = all-append (h w p) (families-all f h a)
+
+module _ (s : List ℕ → ℤ) (kids : ℕ → List ℕ → List (List ℕ)) (l : ℕ) {P : ℕ → List ℕ → Type 0} where
+  pub live-all : P 0 [] → ((i : ℕ) (w : List ℕ) → P i w → All (P (suc i)) (kids i w)) → (i : ℕ) → All (P i) (liveBy s kids l i)
+  unfolding liveBy
+  live-all start step zero = more start none
+  live-all start step (suc i) = all-take l (all-sort (ahead s) (families-all (kids i) (step i) (live-all start step i)))
+
+-- how a prefix goes on: by one bit, whatever it is, or by both
+pub data Goes (w : List ℕ) : List (List ℕ) → Type 0 where
+  by : (b : ℕ) → Goes w ((w ++ b ∷ []) ∷ [])
+  both : Goes w ((w ++ 0 ∷ []) ∷ (w ++ 1 ∷ []) ∷ [])
+
+pub goes : (c : Code) (i : ℕ) (w : List ℕ) → Goes w (children c i w)
+unfolding children
+goes c i w = by-flag (getD (frozen c) i 0)
+  where
+    by-flag : (f : ℕ) → Goes w (continued f w)
+    by-flag zero = both
+    by-flag (suc f) = by 0
+
 -- ---- the prefixes after i positions have i bits
 abbrev pub Long : ℕ → List ℕ → Type 0
 Long n w = length w ≡ n
@@ -92,33 +116,29 @@ Long n w = length w ≡ n
 longer : (n b : ℕ) (w : List ℕ) → Long n w → Long (suc n) (w ++ b ∷ [])
 longer n b w h = omega (arith, length-append w (b ∷ []))
 
-pub continued-long : (f n : ℕ) (w : List ℕ) → Long n w → All (Long (suc n)) (continued f w)
-continued-long zero n w h = more (longer n 0 w h) (more (longer n 1 w h) none)
-continued-long (suc f) n w h = more (longer n 0 w h) none
+goes-long : (n : ℕ) (w : List ℕ) {ks : List (List ℕ)} → Goes w ks → Long n w → All (Long (suc n)) ks
+goes-long n w (by b) h = more (longer n b w h) none
+goes-long n w both h = more (longer n 0 w h) (more (longer n 1 w h) none)
 
-pub families-all : {P Q : List ℕ → Type 0} (f : List ℕ → List (List ℕ)) → ((w : List ℕ) → P w → All Q (f w)) → {ws : List (List ℕ)} → All P ws → All Q (families f ws)
-families-all f h none = none
-families-all f h (more {x = w} p a) = all-append (h w p) (families-all f h a)
+pub search-long : (s : List ℕ → ℤ) (kids : ℕ → List ℕ → List (List ℕ)) (l : ℕ) → ((i : ℕ) (w : List ℕ) → Goes w (kids i w)) → (i : ℕ) → All (Long i) (liveBy s kids l i)
+search-long s kids l rule = live-all s kids l {P = Long} refl (λ i w. goes-long i w (rule i w))
 
 module _ (T : List ℕ → List ℕ) (c : Code) (y : List ℤ) (l : ℕ) where
-  pub family-long : (i : ℕ) {ws : List (List ℕ)} → All (Long i) ws → All (Long (suc i)) (families (children c i) ws)
-  unfolding children
-  family-long i a = families-all (λ w. continued (getD (frozen c) i 0) w) (λ w. continued-long (getD (frozen c) i 0) i w) a
-
   pub live-long : (i : ℕ) → All (Long i) (live T c y l i)
-  unfolding live
-  live-long zero = more refl none
-  live-long (suc i) = all-take l (all-sort (ahead (scoreOf T c y l)) (family-long i (live-long i)))
+  live-long = search-long (scoreOf T c y l) (children c) l (goes c)
+
+  family-long : (i : ℕ) → All (Long (suc i)) (families (children c i) (live T c y l i))
+  family-long i = families-all (children c i) (λ w. goes-long i w (goes c i w)) (live-long i)
 
 -- one position of the paper decoder, by costs
 module _ (c : Code) (y : List ℤ) (l : ℕ) (ey : length y ≡ size c) where
   pub live-by-cost : (i : ℕ) → i < size c
       → live (codeTransform c) c y l (suc i) ≡ take l (sortBy (cheaper (cost (c .m) y)) (families (children c i) (live (codeTransform c) c y l i)))
-  unfolding live
+  unfolding liveBy
   live-by-cost i h = ap (take l)
       (sort-same {P = Long (suc i)} (ahead (score (transform (c .m)) (2 ^ c .m) y)) (cheaper (cost (c .m) y))
       (λ v w p q. ahead-cheaper (c .m) y ey v w (omega (arith, p)) (omega (arith, q)))
-      (family-long (codeTransform c) c y l i (live-long (codeTransform c) c y l i)))
+      (family-long (codeTransform c) c y l i))
 
 -- ---- and are words of bits
 pub continued-bits : (f : ℕ) (w : List ℕ) → Bits w → All Bits (continued f w)
@@ -127,11 +147,8 @@ continued-bits (suc f) w b = more (bits-snoc 0 b (omega arith)) none
 
 module _ (T : List ℕ → List ℕ) (c : Code) (y : List ℤ) (l : ℕ) where
   pub live-bits : (i : ℕ) → All Bits (live T c y l i)
-  unfolding live children
-  live-bits zero = more nil none
-  live-bits (suc i) =
-      all-take l (all-sort (ahead (scoreOf T c y l))
-      (families-all (λ w. continued (getD (frozen c) i 0) w) (continued-bits (getD (frozen c) i 0)) (live-bits i)))
+  unfolding children
+  live-bits = live-all (scoreOf T c y l) (children c) l {P = λ _. Bits} nil (λ i. continued-bits (getD (frozen c) i 0))
 
 -- at each rank
 pub all-at : {A : Type 0} {P : A → Type 0} (d : A) {xs : List A} → All P xs → (r : ℕ) → r < length xs → P (getD xs r d)

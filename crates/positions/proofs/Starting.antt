@@ -7,7 +7,7 @@ use lib.ListN.{length, take, drop, getD}
 use lib.Seq.{getD-take}
 use lib.IntN.{ℤ}
 use Rattle.spec.specs.Code.{Code}
-use Rattle.spec.specs.Decoder.{live}
+use Rattle.spec.specs.Decoder.{liveBy}
 use Rattle.laws.specs.Cost.{cost}
 use Rattle.laws.specs.Layer.{cost-empty}
 use Rattle.tables.specs.Right.{Right, cellIn}
@@ -49,7 +49,7 @@ module _ (c : Code) (y : List ℤ) (deep l h n : ℕ) (s : Live) (t b slots : Li
   empty (suc r) h = absurd (omega arith)
 
   pub running-start : Running c y deep l h 0 s t b slots
-  unfolding live
+  unfolding liveBy
   running-start = record {
     call = call;
     counted = one s holds;

@@ -6,7 +6,7 @@ use Rattle.spec.specs.Bits.{bitsOf, unpacked}
 use Rattle.spec.specs.Transform.{transform}
 use Rattle.spec.specs.Code.{frozen}
 use Rattle.spec.specs.Score.{largest, score}
-use Rattle.spec.specs.Decoder.{children, live, rows}
+use Rattle.spec.specs.Decoder.{children, liveBy, rows}
 use Rattle.spec.specs.Examples.{y₁, frozen01, decode}
 use Rattle.text.specs.BitText.{bitText}
 use Rattle.text.specs.Decimal.{digits, decimal}
@@ -20,7 +20,7 @@ pub sample-text : textOf 0 (decode frozen01 y₁ 2 4) ≡
     ∷ 48 ∷ 32 ∷ 49 ∷ 51 ∷ 32 ∷ 48 ∷ 48 ∷ 49 ∷ 48 ∷ 32 ∷ 48 ∷ 49 ∷ 49 ∷ 48 ∷ 10
     ∷ 49 ∷ 32 ∷ 49 ∷ 49 ∷ 32 ∷ 48 ∷ 48 ∷ 48 ∷ 48 ∷ 32 ∷ 48 ∷ 48 ∷ 48 ∷ 48 ∷ 10
     ∷ []
-unfolding frozen01 y₁ textOf linesOf frameLine rowLine bitText decimal digits rows live children score largest transform frozen unpacked bitsOf
+unfolding frozen01 y₁ textOf linesOf frameLine rowLine bitText decimal digits rows liveBy children score largest transform frozen unpacked bitsOf
 sample-text = refl
 
 -- `refused 13`

@@ -44,6 +44,13 @@ abbrev pub families : (List ℕ → List (List ℕ)) → List (List ℕ) → Lis
 families f [] = []
 families f (w ∷ ws) = f w ++ families f ws
 
+-- a list search, whatever the scores s and the children kids i of a prefix at position i are: the best l stay
+module _ (s : List ℕ → ℤ) (kids : ℕ → List ℕ → List (List ℕ)) (l : ℕ) where
+  -- The live prefixes after i positions, best first. At a frozen position there are no more children than prefixes, so none is cut.
+  unfoldable pub liveBy : ℕ → List (List ℕ)
+  liveBy zero = [] ∷ []
+  liveBy (suc i) = take l (sortBy (ahead s) (families (kids i) (liveBy i)))
+
 -- a row: the prefix with 0 from the stop position on, its transform, and the prefix's score
 pub record Row : Type 0 where
   pub input : List ℕ
@@ -54,10 +61,9 @@ module _ (T : List ℕ → List ℕ) (c : Code) (y : List ℤ) (l : ℕ) where
   abbrev pub scoreOf : List ℕ → ℤ
   scoreOf w = score T (size c) y w
 
-  -- The live prefixes after i positions, best first. At a frozen position there are no more children than prefixes, so none is cut.
-  unfoldable pub live : ℕ → List (List ℕ)
-  live zero = [] ∷ []
-  live (suc i) = take l (sortBy (ahead scoreOf) (families (children c i) (live i)))
+  -- the live prefixes after i positions
+  abbrev pub live : ℕ → List (List ℕ)
+  live = liveBy scoreOf (children c) l
 
   abbrev pub rowOf : List ℕ → Row
   rowOf w =

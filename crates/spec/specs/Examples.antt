@@ -7,7 +7,7 @@ use Rattle.spec.specs.Bits.{bitsOf, packed, unpacked}
 use Rattle.spec.specs.Transform.{transform, inverse, tableEntry}
 use Rattle.spec.specs.Code.{Code, code, frozen, codeTransform, encoded, inputOf, extracted}
 use Rattle.spec.specs.Score.{largest, score}
-use Rattle.spec.specs.Decoder.{Row, children, live, rows}
+use Rattle.spec.specs.Decoder.{Row, children, liveBy, rows}
 use Rattle.spec.specs.Faults.{first, some}
 use Rattle.spec.specs.Refusals.{pastEnd}
 use Rattle.spec.specs.Outcome.{Written, written, encodeRefusal, encodeOutcome, extractRefusal, extractOutcome}
@@ -77,5 +77,5 @@ table =
     ∷ []
 
 pub starred-examples : map (λ (e : Example). e .found) table ≡ map (λ (e : Example). e .stated) table
-unfolding table y₀ y₁ y₂ frozen01 frozen123 noneFrozen bitsOf packed unpacked transform inverse tableEntry frozen encoded inputOf extracted largest score children live rows first some pastEnd encodeRefusal encodeOutcome extractRefusal extractOutcome
+unfolding table y₀ y₁ y₂ frozen01 frozen123 noneFrozen bitsOf packed unpacked transform inverse tableEntry frozen encoded inputOf extracted largest score children liveBy rows first some pastEnd encodeRefusal encodeOutcome extractRefusal extractOutcome
 starred-examples = refl

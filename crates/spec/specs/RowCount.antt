@@ -9,7 +9,7 @@ use lib.ListN.{length, take, getD, length-take, length-map, length-append}
 use lib.IntN.{ℤ}
 use Rattle.spec.specs.Bits.{bitsOf, unpacked}
 use Rattle.spec.specs.Code.{Code, size, mapBytes, frozen, clear}
-use Rattle.spec.specs.Decoder.{insertBy, sortBy, ahead, continued, children, families, scoreOf, live, rows, rowOf}
+use Rattle.spec.specs.Decoder.{insertBy, sortBy, ahead, continued, children, families, liveBy, scoreOf, live, rows, rowOf}
 
 -- ---- a sort keeps the length
 module _ {A : Type 0} (le : A → A → Bool) where
@@ -60,7 +60,7 @@ clear-suc (suc f ∷ fs) (suc i) h = clear-suc fs i (omega arith)
 
 module _ (T : List ℕ → List ℕ) (c : Code) (y : List ℤ) (l : ℕ) (l≥1 : 1 ≤ l) where
   pub length-live : (p : ℕ) → p ≤ length (frozen c) → length (live T c y l p) ≡ min l (2 ^ clear (take p (frozen c)))
-  unfolding live children
+  unfolding liveBy children
   length-live zero h = omega arith
   length-live (suc i) h =
       let ws : List (List ℕ) = live T c y l i in

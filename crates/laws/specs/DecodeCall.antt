@@ -1,5 +1,5 @@
--- A decoder call that is served: its stop position is at most n, and it has at most l rows.
-use mathlib.Core.Path.{_≡_}
+-- A decoder call that is not refused: what is known of its arguments, and what it comes to.
+use mathlib.Core.Path.{_≡_, sym}
 use mathlib.Core.List.{List}
 use Prim.Native.Nat.{ℕ, _≤_}
 use native.Mathlib.Omega.{arith}
@@ -9,8 +9,9 @@ use lib.IntN.{ℤ}
 use Rattle.spec.specs.Code.{Code, size, mapBytes, codeTransform}
 use Rattle.spec.specs.Decoder.{rows}
 use Rattle.spec.specs.Refusals.{Room, decodeFaults}
+use Rattle.spec.specs.Outcome.{refusedBy, Lent, roomOf, decoding, decodeRefusal, decodeServed, decodeOutcome}
 use Rattle.spec.specs.RowCount.{row-count}
-use Rattle.laws.specs.FirstFault.{First, later, inside-of, same-of}
+use Rattle.laws.specs.FirstFault.{First, later, of-first, inside-of, same-of, settled-served}
 
 module _ (c : Code) (l p : ℕ) (soft : List ℤ) (r : Room) where
   pub list-in-range : First (decodeFaults c l p soft r) 0 → (1 ≤ l) × (l ≤ 32)
@@ -24,3 +25,15 @@ module _ (c : Code) (l p : ℕ) (soft : List ℤ) (r : Room) where
 
   pub rows-at-most : First (decodeFaults c l p soft r) 0 → length (rows (codeTransform c) c soft l p) ≤ l
   rows-at-most f = omega (arith, row-count (codeTransform c) c soft l p (list-in-range f .0) (map-right f) (stop-in-range f))
+
+module _ (c : Code) (l p : ℕ) (soft : List ℤ) where
+  abbrev pub AcceptedCall : Lent → Type 0
+  AcceptedCall x = decodeRefusal c l p soft (roomOf x) ≡ 0
+
+  pub accepted-faults : (x : Lent) → AcceptedCall x → First (decodeFaults c l p soft (roomOf x)) 0
+  unfolding decodeRefusal
+  accepted-faults x e = of-first (decodeFaults c l p soft (roomOf x)) 0 (sym e)
+
+  pub accepted-is : (x : Lent) → AcceptedCall x → decodeOutcome c l p soft x ≡ decodeServed c l p soft (roomOf x)
+  unfolding decodeOutcome
+  accepted-is x e = sym (settled-served (λ k. decoding (refusedBy k) x) (decodeServed c l p soft (roomOf x)) (decodeRefusal c l p soft (roomOf x)) (sym e))

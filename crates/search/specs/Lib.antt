@@ -1,0 +1,4 @@
+pub mod ListSearch
+pub mod FirstPrefix
+pub mod FirstRow
+pub mod FirstRowExamples
