@@ -22,7 +22,7 @@ PROVED = crates.txt $(shell find crates -name '*.rt' -o -name '*.antt')
 # The sample record of the rules, as bytes.
 RECORD = crates/decode_job/stdin
 
-HOSTS = encode_extract decode_block read_record decode_links
+HOSTS = encode_extract decode_block display_early read_record decode_links
 
 .PHONY: look run test hosts bench stored-records clean
 

@@ -126,6 +126,12 @@ uint32_t caldurrex_extract(uint32_t m, const uint8_t *map, size_t map_len,
  * With q clear positions below stop there are min(l, 2^q) rows. What the tables and
  * the outputs hold before the call does not matter.
  *
+ * Once stop is past every frozen position, the first row is known early: its input
+ * bytes below stop and scores[0] are those of the first row at stop n, for the same
+ * map, list_size and soft values. A display can decode with stop at the last frozen
+ * position + 1, show these, and decode on with a larger stop: what it has shown stays.
+ * The input bytes from stop on, the word and the other rows are not known before n.
+ *
  * Returns the number of rows, which is at least 1, or minus the first of these that
  * applies, in this order:
  *

@@ -215,7 +215,7 @@ int main(int argc, char **argv)
     unsigned long rounds = argc > 2 ? strtoul(argv[2], NULL, 10) : USUAL_ROUNDS;
     printf("compare_decoder: seed %lu, rounds %lu, each call made twice\n", seed, rounds);
     draw_seed(seed);
-    decoder_check_open(seed);
+    decoder_check_open("compare_decoder", seed);
     try_all(rounds);
     if (!decoder_tally_report()) {
         printf("compare_decoder: FAILED: not all was reached (seed %lu)\n", seed);

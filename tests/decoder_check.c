@@ -39,6 +39,7 @@ static size_t want_len[SLICES];
 static int32_t last_answer;
 
 static const struct decoder_call *under_way;
+static const char *program;
 static unsigned long seed;
 
 /* ---- messages */
@@ -75,7 +76,7 @@ static void print_difference(const struct decoder_call *c, int32_t rows)
 
 void decoder_check_fail(const struct decoder_call *c, const char *what)
 {
-    printf("compare_decoder: %s\n", what);
+    printf("%s: %s\n", program, what);
     printf("  m %lu, list size %lu, stop %lu, map of %zu, soft values %zu, numbers %zu, bytes %zu, inputs %zu, words "
            "%zu, scores %zu\n  map ",
            (unsigned long)c->m, (unsigned long)c->list_size, (unsigned long)c->stop, c->map_len, c->soft_len,
@@ -85,7 +86,7 @@ void decoder_check_fail(const struct decoder_call *c, const char *what)
     printf("\n  soft");
     for (size_t i = 0; i < c->soft_len && i < 1024; i++)
         printf(" %d", c->soft[i]);
-    printf("\ncompare_decoder: FAILED at call %lu (seed %lu)\n", decoder_tally_calls() + 1, seed);
+    printf("\n%s: FAILED at call %lu (seed %lu)\n", program, decoder_tally_calls() + 1, seed);
     exit(1);
 }
 
@@ -99,8 +100,9 @@ static void on_fault(int number)
     raise(number);
 }
 
-void decoder_check_open(unsigned long seed_used)
+void decoder_check_open(const char *program_used, unsigned long seed_used)
 {
+    program = program_used;
     seed = seed_used;
     signal(SIGSEGV, on_fault);
     signal(SIGBUS, on_fault);
@@ -232,12 +234,17 @@ static void judge(const struct decoder_call *c, int32_t answer, int32_t right)
     }
 }
 
+static void draw_dirt(enum dirt dirt[SLICES])
+{
+    for (size_t slice = 0; slice < SLICES; slice++)
+        dirt[slice] = (enum dirt)draw_below(DIRTS);
+}
+
 void decoder_check(const struct decoder_call *c, uint32_t sizes_of)
 {
     enum dirt dirt[SLICES];
     int32_t right = ask_paper(c);
-    for (size_t slice = 0; slice < SLICES; slice++)
-        dirt[slice] = (enum dirt)draw_below(DIRTS);
+    draw_dirt(dirt);
     for (int time = 0; time < 2; time++) {
         last_answer = ask_library(c, dirt);
         judge(c, last_answer, right);
@@ -245,6 +252,16 @@ void decoder_check(const struct decoder_call *c, uint32_t sizes_of)
             dirt[slice] = (enum dirt)((dirt[slice] + 1 + draw_below(DIRTS - 1)) % DIRTS);
     }
     decoder_tally(c, sizes_of, last_answer, (const int32_t *)(const void *)want[SCORES]);
+}
+
+void decoder_check_served(const struct decoder_call *c, uint32_t sizes_of)
+{
+    enum dirt dirt[SLICES];
+    draw_dirt(dirt);
+    last_answer = ask_library(c, dirt);
+    if (last_answer != decoder_rows(c))
+        decoder_check_fail(c, "the row count is not that of the code, the list size and the stop position");
+    decoder_tally(c, sizes_of, last_answer, decoder_check_outputs().scores);
 }
 
 struct decoder_outputs decoder_check_outputs(void)

@@ -9,13 +9,17 @@
 
 #include "decoder_calls.h"
 
-/* seed is for messages. */
-void decoder_check_open(unsigned long seed);
+/* program and seed are for messages. */
+void decoder_check_open(const char *program, unsigned long seed);
 
 /* Makes the call. Ends the program with status 1, and says what differs, if anything
  * is not as it must be. Counts the call in decoder_tally.h under sizes_of, the m that
  * the sizes were made for: the m passed may be another. */
 void decoder_check(const struct decoder_call *c, uint32_t sizes_of);
+
+/* The same once, for a call that must be served, without the paper decoder: what the
+ * call leaves in its outputs is for the caller to judge. */
+void decoder_check_served(const struct decoder_call *c, uint32_t sizes_of);
 
 /* What the last call answered and left in its outputs. */
 struct decoder_outputs {

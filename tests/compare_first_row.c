@@ -1,0 +1,155 @@
+/*
+ * Looks whether the first row is known early, on random codes at every m: once the stop
+ * position is past every frozen position, the first row's input bits below it and its
+ * score are those at every stop position behind it, n among them.
+ *
+ *   compare_first_row [seed [rounds]]
+ *
+ * Up to m = 5 each call is also compared with the paper decoder.
+ */
+#include "decoder_calls.h"
+#include "decoder_check.h"
+#include "decoder_tally.h"
+#include "draw.h"
+#include "reference_codec.h"
+
+#include <stdio.h>
+#include <stdlib.h>
+#include <string.h>
+
+enum { USUAL_ROUNDS = 20, PAPER_M = 5 };
+
+/* What must be met at every m, or equal rows would show little: a stop position 0 (no
+ * position is frozen), one between 0 and n, and n; for one between, a first row that has
+ * a 1 behind it, and one that shares its score with the second; and a first row that is
+ * another where the stop position is one less, at the last frozen position. */
+enum { NONE_FROZEN, BETWEEN, LAST_FROZEN, BITS_FOLLOW, TIES, ANOTHER_BEFORE, EVENTS };
+
+static const char *const event_name[EVENTS] = {"none frozen", "frozen up to a place", "last frozen", "bits follow",
+                                               "ties", "another before"};
+
+static unsigned long events[DECODER_MAX_M + 1][EVENTS];
+
+/* A call's first row, and whether the second has the same score. */
+struct row {
+    uint32_t stop;
+    int32_t score;
+    int ties;
+    uint8_t input[DECODER_MAX_N], word[DECODER_MAX_N];
+};
+
+static struct row first_row(struct decoder_call *c, uint32_t stop)
+{
+    size_t n = (size_t)1 << c->m;
+    struct row row = {.stop = stop};
+    c->stop = stop;
+    if (c->m <= PAPER_M)
+        decoder_check(c, c->m);
+    else
+        decoder_check_served(c, c->m);
+    struct decoder_outputs out = decoder_check_outputs();
+    row.score = out.scores[0];
+    row.ties = out.answer > 1 && out.scores[1] == out.scores[0];
+    memcpy(row.input, out.inputs, n);
+    memcpy(row.word, out.words, n);
+    return row;
+}
+
+/* Both stop positions are past every frozen position, that of early the smaller. */
+static void must_agree(const struct decoder_call *c, const struct row *early, const struct row *late)
+{
+    static const uint8_t zeros[DECODER_MAX_N];
+    size_t n = (size_t)1 << c->m, p = early->stop;
+    uint8_t word[DECODER_MAX_N];
+    reference_transform(n, early->input, word);
+    if (early->score != late->score)
+        decoder_check_fail(c, "the first row's score is not known early");
+    if (memcmp(early->input, late->input, p) != 0)
+        decoder_check_fail(c, "the first row's bits are not known early");
+    if (memcmp(early->input + p, zeros, n - p) != 0 || memcmp(early->word, word, n) != 0)
+        decoder_check_fail(c, "the first row is not 0 from the stop position on, or its word not the transform");
+}
+
+/* ---- codes */
+
+/* One past the last frozen position; 0 if none is. */
+static uint32_t past_frozen(const struct decoder_call *c)
+{
+    uint32_t p = (uint32_t)1 << c->m;
+    while (p > 0 && !reference_frozen(c->map, p - 1))
+        p--;
+    return p;
+}
+
+/* Often with clear positions from some place on, so that much of the list lies behind
+ * the last frozen position; every second time with soft values that make ties. */
+static void draw_block(struct decoder_call *c, uint32_t m, unsigned long i)
+{
+    size_t n = (size_t)1 << m, cut = draw_below(2) ? draw_below(n + 1) : n;
+    size_t soft = i % 2 ? SOFT_SMALL + draw_below(SOFT_KINDS - SOFT_SMALL) : draw_below(SOFT_SMALL);
+    uint32_t list_size = (uint32_t)(1 + draw_below(DECODER_MAX_LIST));
+    decoder_call_good(c, m, (enum code_kind)(i % CODE_KINDS), (enum soft_kind)soft, list_size, 0);
+    for (size_t at = cut; at < n; at++)
+        c->map[at / 8] &= (uint8_t)~(1u << at % 8);
+}
+
+static void count(const struct decoder_call *c, const struct row *early, const struct row *last)
+{
+    size_t n = (size_t)1 << c->m;
+    int between = early->stop > 0 && early->stop < n;
+    unsigned long *met = events[c->m];
+    met[NONE_FROZEN] += early->stop == 0;
+    met[BETWEEN] += (unsigned long)between;
+    met[LAST_FROZEN] += early->stop == n;
+    met[BITS_FOLLOW] += between && memcmp(early->input, last->input, n) != 0;
+    met[TIES] += between && early->ties && last->ties;
+}
+
+static void try_block(struct decoder_call *c)
+{
+    uint32_t n = (uint32_t)1 << c->m, p = past_frozen(c);
+    struct row early = first_row(c, p), on = first_row(c, p + (uint32_t)draw_below(n - p + 1)), last = first_row(c, n);
+    must_agree(c, &early, &on);
+    must_agree(c, &early, &last);
+    must_agree(c, &on, &last);
+    count(c, &early, &last);
+    if (p > 0) {
+        struct row before = first_row(c, p - 1);
+        events[c->m][ANOTHER_BEFORE] += before.score != last.score || memcmp(before.input, last.input, p - 1) != 0;
+    }
+}
+
+static int report(uint32_t m)
+{
+    int reached = 1;
+    printf("m %2lu:", (unsigned long)m);
+    for (size_t event = 0; event < EVENTS; event++) {
+        printf("%s %s %lu", event == 0 ? "" : ",", event_name[event], events[m][event]);
+        reached &= events[m][event] > 0;
+    }
+    printf("%s\n", reached ? "" : "  NOT ALL REACHED");
+    return reached;
+}
+
+int main(int argc, char **argv)
+{
+    unsigned long seed = argc > 1 ? strtoul(argv[1], NULL, 10) : 1;
+    unsigned long rounds = argc > 2 ? strtoul(argv[2], NULL, 10) : USUAL_ROUNDS;
+    int reached = 1;
+    draw_seed(seed);
+    decoder_check_open("compare_first_row", seed);
+    for (uint32_t m = DECODER_MIN_M; m <= DECODER_MAX_M; m++) {
+        struct decoder_call c;
+        for (unsigned long i = 0; i < rounds * (m <= 5 ? 25 : m <= 8 ? 10 : 3); i++) {
+            draw_block(&c, m, i);
+            try_block(&c);
+        }
+        reached &= report(m);
+    }
+    if (!reached) {
+        printf("compare_first_row: FAILED: not all was reached (seed %lu)\n", seed);
+        return 1;
+    }
+    printf("compare_first_row: first rows agree over %lu calls (seed %lu)\n", decoder_tally_calls(), seed);
+    return 0;
+}
