@@ -128,7 +128,7 @@ uint32_t caldurrex_extract(uint32_t m, const uint8_t *map, size_t map_len,
  *
  * Once stop is past every frozen position, the first row is known early: its input
  * bytes below stop and scores[0] are those of the first row at stop n, for the same
- * map, list_size and soft values. A display can decode with stop at the last frozen
+ * m, map, list_size and soft. A display can decode with stop at the last frozen
  * position + 1, show these, and decode on with a larger stop: what it has shown stays.
  * The input bytes from stop on, the word and the other rows are not known before n.
  *

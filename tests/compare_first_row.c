@@ -55,6 +55,16 @@ static struct row first_row(struct decoder_call *c, uint32_t stop)
     return row;
 }
 
+static void need(int ok, const struct decoder_call *c, const struct row *early, const struct row *late,
+                 const char *what)
+{
+    char text[96];
+    snprintf(text, sizeof text, "at stops %lu and %lu the first row's %s", (unsigned long)early->stop,
+             (unsigned long)late->stop, what);
+    if (!ok)
+        decoder_check_fail(c, text);
+}
+
 /* Both stop positions are past every frozen position, that of early the smaller. */
 static void must_agree(const struct decoder_call *c, const struct row *early, const struct row *late)
 {
@@ -62,12 +72,10 @@ static void must_agree(const struct decoder_call *c, const struct row *early, co
     size_t n = (size_t)1 << c->m, p = early->stop;
     uint8_t word[DECODER_MAX_N];
     reference_transform(n, early->input, word);
-    if (early->score != late->score)
-        decoder_check_fail(c, "the first row's score is not known early");
-    if (memcmp(early->input, late->input, p) != 0)
-        decoder_check_fail(c, "the first row's bits are not known early");
-    if (memcmp(early->input + p, zeros, n - p) != 0 || memcmp(early->word, word, n) != 0)
-        decoder_check_fail(c, "the first row is not 0 from the stop position on, or its word not the transform");
+    need(early->score == late->score, c, early, late, "scores differ");
+    need(memcmp(early->input, late->input, p) == 0, c, early, late, "bits differ");
+    need(memcmp(early->input + p, zeros, n - p) == 0, c, early, late, "bits behind the first stop are not 0");
+    need(memcmp(early->word, word, n) == 0, c, early, late, "word is not the transform");
 }
 
 /* ---- codes */
