@@ -177,8 +177,8 @@ static void lengths(const struct decoder_call *c, size_t len[SLICES])
         len[slice] = all[slice] * slices[slice].unit;
 }
 
-/* The answer of the paper decoder, its outputs in want. */
-static int32_t ask_paper(const struct decoder_call *c)
+/* Room in want for what the call must leave in the slices that it writes. */
+static void make_want(const struct decoder_call *c)
 {
     size_t len[SLICES];
     lengths(c, len);
@@ -188,6 +188,12 @@ static int32_t ask_paper(const struct decoder_call *c)
             need(want[slice] != NULL, "realloc");
         }
     }
+}
+
+/* The answer of the paper decoder, its outputs in want. */
+static int32_t ask_paper(const struct decoder_call *c)
+{
+    make_want(c);
     return paper_decode(c->m, c->map, c->map_len, c->list_size, c->stop, c->soft, c->soft_len,
                         (uint32_t *)(void *)want[NUMBERS], c->numbers_len, want[BYTES], c->bytes_len,
                         want[INPUTS], c->inputs_len, want[WORDS], c->words_len,
@@ -261,6 +267,14 @@ void decoder_check_served(const struct decoder_call *c, uint32_t sizes_of)
     last_answer = ask_library(c, dirt);
     if (last_answer != decoder_rows(c))
         decoder_check_fail(c, "the row count is not that of the code, the list size and the stop position");
+    make_want(c);
+    for (size_t slice = FIRST_WRITTEN; slice < SLICES; slice++) {
+        if (slice < INPUTS)
+            memset(want[slice], 0, lent[slice]->len);
+        else
+            memcpy(want[slice], lent[slice]->at, lent[slice]->len);
+    }
+    judge(c, last_answer, last_answer);
     decoder_tally(c, sizes_of, last_answer, decoder_check_outputs().scores);
 }
 

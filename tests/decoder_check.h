@@ -18,7 +18,8 @@ void decoder_check_open(const char *program, unsigned long seed);
 void decoder_check(const struct decoder_call *c, uint32_t sizes_of);
 
 /* The same once, for a call that must be served, without the paper decoder: what the
- * call leaves in its outputs is for the caller to judge. */
+ * call leaves in its outputs is for the caller to judge. The answer, the tables, the
+ * inputs and all guards are judged here. */
 void decoder_check_served(const struct decoder_call *c, uint32_t sizes_of);
 
 /* What the last call answered and left in its outputs. */

@@ -4,7 +4,7 @@ use mathlib.Core.Bool.{Bool, true, false, not, cond, _&&_, _||_}
 use mathlib.Core.List.{List, [], _∷_, _++_}
 use Prim.Native.Nat.{ℕ, zero, suc, _+_, _-_, _*_, _^_, _<_, _≤_}
 use native.Mathlib.Omega.{arith}
-use lib.ListN.{length, length-append, take, getD}
+use lib.ListN.{length, length-append, take, getD, replicate, length-replicate}
 use lib.IntN.{ℤ}
 use lib.Dec.{T, ltb, leb, leb→le, le→leb, ltb→lt, lt→ltb, nleb→lt}
 use lib.Arith.{lt→nleb}
@@ -115,6 +115,10 @@ Long n w = length w ≡ n
 
 longer : (n b : ℕ) (w : List ℕ) → Long n w → Long (suc n) (w ++ b ∷ [])
 longer n b w h = omega (arith, length-append w (b ∷ []))
+
+-- a prefix with 0 behind it, filled up to n bits
+pub filled-long : (n : ℕ) (w : List ℕ) → length w ≤ n → Long n (w ++ replicate (n - length w) 0)
+filled-long n w h = omega (arith, length-append w (replicate (n - length w) 0), length-replicate {A = ℕ} (n - length w) 0)
 
 goes-long : (n : ℕ) (w : List ℕ) {ks : List (List ℕ)} → Goes w ks → Long n w → All (Long (suc n)) ks
 goes-long n w (by b) h = more (longer n b w h) none

@@ -1,10 +1,10 @@
 -- The text of the paper decoder's rows, with no slice in sight, and that the program writes it from what a served decoder call leaves.
 -- Beside it the sample of 01, "The program's output".
-use mathlib.Core.Path.{_≡_, refl, ap, _∙_}
+use mathlib.Core.Path.{_≡_, refl, ap}
 use mathlib.Core.List.{List, [], _∷_, _++_, map, append-assoc}
 use Prim.Native.Nat.{ℕ, _+_, _-_, _^_, _≤_}
 use native.Mathlib.Omega.{arith}
-use lib.ListN.{length, take, drop, replicate, length-append, length-replicate}
+use lib.ListN.{length, take, drop, replicate}
 use lib.Seq.{take-at, drop-at}
 use lib.IntN.{ℤ}
 use Rattle.spec.specs.Code.{Code, size, codeTransform}
@@ -12,7 +12,7 @@ use Rattle.spec.specs.Decoder.{Row, rowOf, live, rows}
 use Rattle.spec.specs.Refusals.{Room}
 use Rattle.spec.specs.Outcome.{concat, Lent, decodedRows, decodeServed}
 use Rattle.laws.specs.Layer.{length-transform}
-use Rattle.laws.specs.ListCost.{All, none, more, Long, live-long}
+use Rattle.laws.specs.ListCost.{All, none, more, Long, filled-long, live-long}
 use Rattle.row_text.specs.Output.{frameLine, rowLine, rowLines, outputOf}
 
 -- a line for each row by rank, behind line one
@@ -52,8 +52,7 @@ module _ (c : Code) (y : List ℤ) (l p : ℕ) (h : p ≤ size c) where
   wide [] none = none
   wide (w ∷ ws) (more e all) =
       let u : List ℕ = w ++ replicate (size c - length w) 0 in
-      let long : length u ≡ 2 ^ c .m
-      = length-append w (replicate (size c - length w) 0) ∙ ap (λ (k : ℕ). length w + k) (length-replicate (size c - length w) 0) ∙ omega (arith, e) in
+      let long : length u ≡ 2 ^ c .m = filled-long (size c) w (omega (arith, e, h)) in
       more (long, length-transform (c .m) u long) (wide ws all)
 
   -- what is written from a served call is the text of the paper decoder's rows

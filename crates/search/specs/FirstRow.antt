@@ -4,7 +4,7 @@ use mathlib.Core.Path.{_≡_, sym, ap, ap₂, subst, _∙_}
 use mathlib.Core.List.{List, _∷_, _++_, map, append-assoc}
 use Prim.Native.Nat.{ℕ, _+_, _-_, _<_, _≤_}
 use native.Mathlib.Omega.{arith}
-use lib.ListN.{length, take, getD, replicate, length-append, length-replicate}
+use lib.ListN.{length, take, getD, replicate}
 use lib.Seq.{take-at}
 use lib.IntN.{ℤ, pos}
 use Rattle.spec.specs.Code.{Code, size, frozen, codeTransform}
@@ -12,7 +12,7 @@ use Rattle.spec.specs.Decoder.{Row, continued, children, scoreOf, live, rowOf, 
 use Rattle.spec.specs.Refusals.{Room}
 use Rattle.spec.specs.Outcome.{Lent, roomOf, Decoding, concat, padded, decodedRows, decodeServed, decodeOutcome}
 use Rattle.laws.specs.Layer.{length-transform}
-use Rattle.laws.specs.ListCost.{goes, live-long}
+use Rattle.laws.specs.ListCost.{goes, live-long, filled-long}
 use Rattle.laws.specs.ScoreOfChildren.{score-of-children}
 use Rattle.laws.specs.DecodeCall.{AcceptedCall, accepted-faults, accepted-is, list-in-range, stop-in-range}
 use Rattle.search.specs.ListSearch.{all-in, Leads, leads, leads-in, leads-same, live-leads}
@@ -75,7 +75,7 @@ module _ (c : Code) (l p : ℕ) (soft : List ℤ) (x : Lent) (a : AcceptedCall c
       → firstRow (size c) (decodedRows (roomOf x) (map (rowOf T c soft l) ws)) ≡ rowOf T c soft l h
   row-of h e (leads {ws} q) =
       let u : List ℕ = h ++ replicate (size c - length h) 0 in
-      let long : length u ≡ size c = omega (arith, length-append h (replicate (size c - length h) 0), length-replicate {A = ℕ} (size c - length h) 0, e, stop-inside) in
+      let long : length u ≡ size c = filled-long (size c) h (omega (arith, e, stop-inside)) in
       first-written (size c) (rowOf T c soft l h) (map (rowOf T c soft l) ws) (roomOf x) long (length-transform (c .m) u long)
 
   pub first-of-call : FirstOfCall
