@@ -113,6 +113,20 @@ static void try_maps_of_4(enum call_kind kind)
     }
 }
 
+/* Every word of four or of eight bits, nothing frozen: each entry of the table that
+ * the library works with, and every two of them as the halves of a word. */
+static void try_all_words(enum call_kind kind, uint32_t m)
+{
+    size_t n = (size_t)1 << m;
+    for (unsigned bits = 0; bits < 1u << n; bits++) {
+        struct call c;
+        call_good(&c, kind, m, FROZEN_NONE);
+        for (size_t i = 0; i < n; i++)
+            c.in[i] = (uint8_t)(bits >> i & 1);
+        run_as(&c, m, 0);
+    }
+}
+
 static void try_words(uint32_t m)
 {
     struct call good, c;
@@ -136,6 +150,8 @@ static void try_limits(enum call_kind kind, uint32_t m)
     try_bytes(kind, m);
     if (m == 2)
         try_maps_of_4(kind);
+    if (m <= 3)
+        try_all_words(kind, m);
     if (kind == EXTRACT)
         try_words(m);
 }

@@ -3,8 +3,8 @@ use mathlib.Core.Path.{_≡_, refl}
 use mathlib.Core.List.{List, [], _∷_, map}
 use Prim.Native.Nat.{ℕ}
 use lib.IntN.{ℤ, pos, negsuc}
-use Rattle.spec.specs.Bits.{bitsOf, packed, unpacked}
-use Rattle.spec.specs.Transform.{transform, inverse, tableEntry}
+use Rattle.spec.specs.Bits.{bitsOf, unpacked}
+use Rattle.spec.specs.Transform.{transform, inverse}
 use Rattle.spec.specs.Code.{Code, code, frozen, codeTransform, encoded, inputOf, extracted}
 use Rattle.spec.specs.Score.{largest, score}
 use Rattle.spec.specs.Decoder.{Row, children, liveBy, rows}
@@ -14,7 +14,6 @@ use Rattle.spec.specs.Outcome.{Written, written, encodeRefusal, encodeOu
 
 pub data Value : Type 0 where
   words : List (List ℕ) → Value
-  entries : List ℕ → Value
   call : Written → Value
   scores : List ℤ → Value
   decoded : List (List ℕ × ℤ) → Value
@@ -64,7 +63,8 @@ unfoldable pub table : List Example
 table =
     (words (map (transform 2) (word4 1 0 0 0 ∷ word4 0 1 0 0 ∷ word4 0 0 1 0 ∷ word4 0 0 0 1 ∷ []))
     is words (word4 1 0 0 0 ∷ word4 1 1 0 0 ∷ word4 0 1 1 0 ∷ word4 1 1 1 1 ∷ []))
-    ∷ (entries (tableEntry 64 ∷ tableEntry 128 ∷ []) is entries (105 ∷ 255 ∷ []))
+    -- 01's table entries 64 and 128, by 02, wish 4, as words of length 8: the bits of each number, lowest first
+    ∷ (words (map (λ (x : ℕ). transform 3 (bitsOf 8 x)) (64 ∷ 128 ∷ [])) is words (map (bitsOf 8) (105 ∷ 255 ∷ [])))
     ∷ (call (encodeOutcome frozen01 (1 ∷ 1 ∷ []) (word4 9 9 9 9)) is call (written 0 (word4 1 0 0 1)))
     ∷ (call (extractOutcome frozen01 (word4 1 0 0 1) (9 ∷ 9 ∷ [])) is call (written 0 (1 ∷ 1 ∷ [])))
     ∷ (scores (map (score (transform 2) 4 y₁) ([] ∷ (0 ∷ []) ∷ (0 ∷ 0 ∷ []) ∷ [])) is scores (pos 17 ∷ pos 13 ∷ pos 13 ∷ []))
@@ -77,5 +77,5 @@ table =
     ∷ []
 
 pub starred-examples : map (λ (e : Example). e .found) table ≡ map (λ (e : Example). e .stated) table
-unfolding table y₀ y₁ y₂ frozen01 frozen123 noneFrozen bitsOf packed unpacked transform inverse tableEntry frozen encoded inputOf extracted largest score children liveBy rows first some pastEnd encodeRefusal encodeOutcome extractRefusal extractOutcome
+unfolding table y₀ y₁ y₂ frozen01 frozen123 noneFrozen bitsOf unpacked transform inverse frozen encoded inputOf extracted largest score children liveBy rows first some pastEnd encodeRefusal encodeOutcome extractRefusal extractOutcome
 starred-examples = refl

@@ -56,6 +56,6 @@ unfoldable pub inverse : ℕ → List ℕ → List ℕ
 inverse zero c = c
 inverse (suc m) c = joined (inverse m (evens c)) (inverse m (odds c))
 
--- the constant table of 256 bytes: bit i of the index is u_i, bit j of the entry is c_j
+-- 02, wish 4: the constant table of 16 entries, for length 4: bit i of the index is u_i, bit j of the entry is c_j
 unfoldable pub tableEntry : ℕ → ℕ
-tableEntry x = packed (transform 3 (bitsOf 8 x))
+tableEntry x = packed (transform 2 (bitsOf 4 x))

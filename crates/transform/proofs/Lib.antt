@@ -1,4 +1,7 @@
 mod EveryEntry
-mod Halves
+mod Halving
+mod Layers
 mod Passes
 mod ShortWords
+mod Strides
+mod WholeSlice

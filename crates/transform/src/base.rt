@@ -1,70 +1,67 @@
-// The shortest words: four bits directly, and eight by the table.
+// The shortest words: four bits by the table, and eight by their halves of four.
+use crate::layer;
 use crate::table;
 ghost use mathlib.Core.Path.{_≡_};
+ghost use Prim.Native.Nat.{_<_};
 ghost use lib.ListN.{length};
-ghost use Rattle.spec.specs.Bits.{Bits, bitsOf, packed};
+ghost use Rattle.spec.specs.Bits.{bitsOf, packed};
 ghost use Rattle.spec.specs.Transform.{transform, inverse};
-
-// c = (u0 + u1 + u3, u1 + u2 + u3, u2 + u3, u3)
-pub(crate) fn transform_four(s: &mut [u8])
-    requires { ⌜ (length (now s) ≡ 4) × Bits (now s) ⌝ }
-    ensures { λ _. ⌜ now (s .exit) ≡ transform 2 (now (s .entry)) ⌝ }
-{
-    let x = s[1];
-    let y = s[2];
-    let z = s[3];
-    s[0] = s[0] ^ (x ^ z);
-    s[1] = x ^ (y ^ z);
-    s[2] = y ^ z;
-}
-
-// u = (c0 + c1 + c2 + c3, c1 + c2, c2 + c3, c3)
-pub(crate) fn invert_four(s: &mut [u8])
-    requires { ⌜ (length (now s) ≡ 4) × Bits (now s) ⌝ }
-    ensures { λ _. ⌜ now (s .exit) ≡ inverse 2 (now (s .entry)) ⌝ }
-{
-    let x = s[1];
-    let y = s[2];
-    let z = s[3];
-    s[0] = s[0] ^ (x ^ (y ^ z));
-    s[1] = x ^ y;
-    s[2] = y ^ z;
-}
-
-// Bit i of the index is u_i, bit j of the entry is c_j.
-pub(crate) fn transform_eight(s: &mut [u8])
-    requires { ⌜ (length (now s) ≡ 8) × Bits (now s) ⌝ }
-    ensures { λ _. ⌜ now (s .exit) ≡ transform 3 (now (s .entry)) ⌝ }
-{
-    let x = pack(s);
-    let y = table::entry(x);
-    unpack(s, y);
-}
+ghost use Rattle.transform.specs.Strided.{Strided, picked, placed};
 
 // The number whose bits these are, lowest first.
-fn pack(s: &[u8]) -> u8
-    requires { ⌜ (length (now s) ≡ 8) × Bits (now s) ⌝ }
-    ensures { λ r. ⌜ r ≡ packed (now (s .entry)) ⌝ }
+fn pack(s: &[u8], at: usize, d: usize) -> u8
+    requires { ⌜ Strided 4 at d (now s) ⌝ }
+    ensures { λ r. ⌜ (r ≡ packed (picked at d 4 (now (s .entry)))) × (r < 16) ⌝ }
 {
-    let mut x: u8 = 0;
-    let mut i: usize = 8;
-    while 0 < i {
-        i -= 1;
-        x = s[i] + 2 * x;
-    }
-    x
+    let second = at + d;
+    let third = at + 2 * d;
+    let fourth = at + 3 * d;
+    s[at] + 2 * (s[second] + 2 * (s[third] + 2 * s[fourth]))
 }
 
 // The bits of x, lowest first.
-fn unpack(s: &mut [u8], x: u8)
-    requires { ⌜ length (now s) ≡ 8 ⌝ }
-    ensures { λ _. ⌜ now (s .exit) ≡ bitsOf 8 x ⌝ }
+fn unpack(s: &mut [u8], at: usize, d: usize, x: u8)
+    requires { ⌜ (Strided 4 at d (now s)) × (x < 16) ⌝ }
+    ensures { λ _. ⌜ now (s .exit) ≡ placed at d (bitsOf 4 x) (now (s .entry)) ⌝ }
 {
-    let mut y = x;
-    let mut i: usize = 0;
-    while i < 8 {
-        s[i] = y % 2;
-        y = y / 2;
-        i += 1;
-    }
+    s[at] = x % 2;
+    s[at + d] = x / 2 % 2;
+    s[at + 2 * d] = x / 2 / 2 % 2;
+    s[at + 3 * d] = x / 2 / 2 / 2;
+}
+
+pub(crate) fn transform_four(s: &mut [u8], at: usize, d: usize)
+    requires { ⌜ Strided 4 at d (now s) ⌝ }
+    ensures { λ _. ⌜ now (s .exit) ≡ placed at d (transform 2 (picked at d 4 (now (s .entry)))) (now (s .entry)) ⌝ }
+{
+    let x = pack(s, at, d);
+    let y = table::entry(x);
+    unpack(s, at, d, y);
+}
+
+pub(crate) fn invert_four(s: &mut [u8], at: usize, d: usize)
+    requires { ⌜ Strided 4 at d (now s) ⌝ }
+    ensures { λ _. ⌜ now (s .exit) ≡ placed at d (inverse 2 (picked at d 4 (now (s .entry)))) (now (s .entry)) ⌝ }
+{
+    let x = pack(s, at, d);
+    let y = table::inverse_entry(x);
+    unpack(s, at, d, y);
+}
+
+pub(crate) fn transform_eight(s: &mut [u8], at: usize, d: usize)
+    requires { ⌜ Strided 8 at d (now s) ⌝ }
+    ensures { λ _. ⌜ now (s .exit) ≡ placed at d (transform 3 (picked at d 8 (now (s .entry)))) (now (s .entry)) ⌝ }
+{
+    layer::split(s, at, d, 4);
+    transform_four(s, at, 2 * d);
+    transform_four(s, at + d, 2 * d);
+}
+
+pub(crate) fn invert_eight(s: &mut [u8], at: usize, d: usize)
+    requires { ⌜ Strided 8 at d (now s) ⌝ }
+    ensures { λ _. ⌜ now (s .exit) ≡ placed at d (inverse 3 (picked at d 8 (now (s .entry)))) (now (s .entry)) ⌝ }
+{
+    invert_four(s, at, 2 * d);
+    invert_four(s, at + d, 2 * d);
+    layer::join(s, at, d, 4);
 }

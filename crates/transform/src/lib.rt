@@ -1,53 +1,64 @@
-// The transform of a word of bits and its inverse, in place. As m is at most 10, a half is at most 512 bytes.
+// The transform of a word of bits and its inverse, in place. The halves of a word at a stride are its even and its odd places: two words
+// at twice the stride.
 mod base;
 mod layer;
 mod table;
 
 ghost use mathlib.Core.Path.{_≡_};
+ghost use Prim.Native.Nat.{_^_};
 ghost use Rattle.spec.specs.Transform.{transform, inverse};
+ghost use Rattle.transform.specs.Strided.{Halved, picked, placed};
 ghost use Rattle.transform.specs.Word.{Word};
 
-// The transform: length 4 directly, length 8 by the table, above that by halves: the even places of the result are the transform of a,
-// the odd ones that of b.
+// The transform: length 4 by the table, length 8 by its halves at once, above that by calling itself on each half: the even places of the
+// result are the transform of a, the odd ones that of b. Half of the length is h.
+fn transform_at(s: &mut [u8], m: u32, h: usize, at: usize, d: usize)
+    requires { ⌜ Halved m h at d (now s) ⌝ }
+    ensures { λ _. ⌜ now (s .exit) ≡ placed at d (transform m (picked at d (2 ^ m) (now (s .entry)))) (now (s .entry)) ⌝ }
+{
+    if m == 2 {
+        base::transform_four(s, at, d);
+        return;
+    }
+    if m == 3 {
+        base::transform_eight(s, at, d);
+        return;
+    }
+    layer::split(s, at, d, h);
+    transform_at(s, m - 1, h / 2, at, 2 * d);
+    transform_at(s, m - 1, h / 2, at + d, 2 * d);
+}
+
+// The inverse, in the same steps: a is the inverse of the even places, b that of the odd ones.
+fn invert_at(s: &mut [u8], m: u32, h: usize, at: usize, d: usize)
+    requires { ⌜ Halved m h at d (now s) ⌝ }
+    ensures { λ _. ⌜ now (s .exit) ≡ placed at d (inverse m (picked at d (2 ^ m) (now (s .entry)))) (now (s .entry)) ⌝ }
+{
+    if m == 2 {
+        base::invert_four(s, at, d);
+        return;
+    }
+    if m == 3 {
+        base::invert_eight(s, at, d);
+        return;
+    }
+    invert_at(s, m - 1, h / 2, at, 2 * d);
+    invert_at(s, m - 1, h / 2, at + d, 2 * d);
+    layer::join(s, at, d, h);
+}
+
 pub fn transform_word(s: &mut [u8], m: u32)
     requires { ⌜ Word m (now s) ⌝ }
     ensures { λ _. ⌜ now (s .exit) ≡ transform m (now (s .entry)) ⌝ }
 {
-    if m == 2 {
-        base::transform_four(s);
-        return;
-    }
-    if m == 3 {
-        base::transform_eight(s);
-        return;
-    }
     let h = s.len() / 2;
-    let mut first = [0u8; 512];
-    let mut second = [0u8; 512];
-    let a = &mut first[..h];
-    let b = &mut second[..h];
-    layer::split(s, a, b);
-    transform_word(a, m - 1);
-    transform_word(b, m - 1);
-    layer::interleave(s, a, b);
+    transform_at(s, m, h, 0, 1);
 }
 
-// The inverse: length 4 directly, above that by halves: a is the inverse of the even places, b that of the odd ones.
 pub fn invert_word(s: &mut [u8], m: u32)
     requires { ⌜ Word m (now s) ⌝ }
     ensures { λ _. ⌜ now (s .exit) ≡ inverse m (now (s .entry)) ⌝ }
 {
-    if m == 2 {
-        base::invert_four(s);
-        return;
-    }
     let h = s.len() / 2;
-    let mut first = [0u8; 512];
-    let mut second = [0u8; 512];
-    let a = &mut first[..h];
-    let b = &mut second[..h];
-    layer::deal(s, a, b);
-    invert_word(a, m - 1);
-    invert_word(b, m - 1);
-    layer::join(s, a, b);
+    invert_at(s, m, h, 0, 1);
 }

@@ -1,68 +1,96 @@
--- `transform::base::pack` meets its contract: the loop holds the number that the bits from its place on make. Assumes nothing.
-use mathlib.Core.Path.{_≡_, sym, ap}
-use Prim.Native.Nat.{_+_, _-_, _*_, _≤_, _<_}
+-- `transform::base::pack` meets its contract: the number of four bits. Assumes nothing.
+use Prim.Native.Nat.{_+_, _*_, _<_}
 use native.Mathlib.Omega.{arith}
-use lib.ListN.{drop, getD, drop-of-length-le}
-use Rattle.spec.specs.Bits.{packed}
-use Rattle.transform.proofs.ShortWords.{packed-fits, pack-turn}
+use lib.ListN.{getD}
+use Rattle.laws.specs.BitLaws.{bits-at}
+use Rattle.transform.proofs.ShortWords.{packed-four}
 use Rattle.transform.proofs.base.pack.Lts as lts
 use Rattle.transform.proofs.base.pack.Reads as reads
 use Rattle.transform.proofs.base.pack.Statement.{statement}
 use Rattle.transform.proofs.base.pack.Tie as tie
 
-abbrev Inv-loop : tie.InvT-loop
-Inv-loop s x₀ i₀ x i = (i ≤ 8) × (x ≡ packed (drop i s))
+-- ---- what the four places hold
+module _ (c : lts.Start reads.Pre reads.Post) where
+  first : getD (c .args .s .now) (c .args .at) 0 < 2
+  first = bits-at (c .pre .bits) (c .args .at)
 
-abbrev μ-loop : tie.MeasureT-loop
-μ-loop s x₀ i₀ x i = i
+  second : getD (c .args .s .now) (c .args .at + c .args .d) 0 < 2
+  second = bits-at (c .pre .bits) (c .args .at + c .args .d)
 
-abbrev Turn : Type 0
-Turn = lts.After-shared-slice-known reads.Pre reads.Post Inv-loop μ-loop
+  third : getD (c .args .s .now) (c .args .at + 2 * c .args .d) 0 < 2
+  third = bits-at (c .pre .bits) (c .args .at + 2 * c .args .d)
 
--- the number of one more bit
-turn : (c : Turn) → getD (c .before .before .before .args .s .now) (c .before .before .loop .i - 1) 0 + 2 * c .before .before .loop .x
-    ≡ packed (drop (c .before .before .loop .i - 1) (c .before .before .before .args .s .now))
-turn c = pack-turn (c .before .before .before .args .s .now) (c .before .before .loop .i) (c .before .before .loop .x) (c .before .loop-test .taken) (omega arith) (c .before .before .loop .inv .1)
+  fourth : getD (c .args .s .now) (c .args .at + 3 * c .args .d) 0 < 2
+  fourth = bits-at (c .pre .bits) (c .args .at + 3 * c .args .d)
 
-fits : (c : Turn) → packed (drop (c .before .before .loop .i - 1) (c .before .before .before .args .s .now)) < 256
-fits c = packed-fits (c .before .before .before .pre .1) (c .before .before .before .pre .0) (c .before .before .loop .i - 1)
+-- ---- the needs
+add-second : tie.Need-add-second
+add-second c = omega arith
 
-loop-holds : tie.Need-loop-holds Inv-loop μ-loop
-unfolding packed
-loop-holds c = (omega arith, sym (ap packed (drop-of-length-le (c .args .s .now) {i = 8} (omega arith))))
+mul-third : tie.Need-mul-third
+mul-third c = omega arith
 
-sub-i : tie.Need-sub-i Inv-loop μ-loop
-sub-i c = omega arith
+add-third : tie.Need-add-third
+add-third c = omega arith
 
-shared-slice-read-x : tie.Need-shared-slice-read-x Inv-loop μ-loop
-shared-slice-read-x c = omega arith
+mul-fourth : tie.Need-mul-fourth
+mul-fourth c = omega arith
 
-mul-x : tie.Need-mul-x Inv-loop μ-loop
-mul-x c = omega (arith, turn c, fits c)
+add-fourth : tie.Need-add-fourth
+add-fourth c = omega arith
 
-add-x : tie.Need-add-x Inv-loop μ-loop
-add-x c = omega (arith, turn c, fits c)
+shared-slice-read-result : tie.Need-shared-slice-read-result
+shared-slice-read-result c = omega arith
 
-loop-less : tie.Need-loop-less Inv-loop μ-loop
-loop-less c = omega arith
+shared-slice-read-result-2 : tie.Need-shared-slice-read-result-2
+shared-slice-read-result-2 c = omega arith
 
-loop-again : tie.Need-loop-again Inv-loop μ-loop
-loop-again c = (omega arith, turn c)
+shared-slice-read-result-3 : tie.Need-shared-slice-read-result-3
+shared-slice-read-result-3 c = omega arith
 
-returns : tie.Need-returns Inv-loop μ-loop
-returns c = let e : c .before .loop .i ≡ 0 = omega arith in rw e at (c .before .loop .inv .1)
+shared-slice-read-result-4 : tie.Need-shared-slice-read-result-4
+shared-slice-read-result-4 c = omega arith
+
+mul-result : tie.Need-mul-result
+mul-result c = omega (arith, fourth (c .before .before .before .before))
+
+add-result : tie.Need-add-result
+add-result c = omega (arith, third (c .before .before .before .before), fourth (c .before .before .before .before))
+
+mul-result-2 : tie.Need-mul-result-2
+mul-result-2 c = omega (arith, third (c .before .before .before .before), fourth (c .before .before .before .before))
+
+add-result-2 : tie.Need-add-result-2
+add-result-2 c = omega (arith, second (c .before .before .before .before), third (c .before .before .before .before), fourth (c .before .before .before .before))
+
+mul-result-3 : tie.Need-mul-result-3
+mul-result-3 c = omega (arith, second (c .before .before .before .before), third (c .before .before .before .before), fourth (c .before .before .before .before))
+
+add-result-3 : tie.Need-add-result-3
+add-result-3 c = omega (arith, first (c .before .before .before .before), second (c .before .before .before .before), third (c .before .before .before .before), fourth (c .before .before .before .before))
+
+returns : tie.Need-returns
+returns c =
+    let a = c .before .before .before .before .args in
+    (packed-four (a .at) (a .d) (a .s .now), omega (arith, first (c .before .before .before .before), second (c .before .before .before .before), third (c .before .before .before .before), fourth (c .before .before .before .before)))
 
 pub pack-spec : {M : Type 1} → statement M
 pack-spec =
     tie.close
     (tie.spec
-    Inv-loop
-    μ-loop
-    loop-holds
-    sub-i
-    shared-slice-read-x
-    mul-x
-    add-x
-    loop-less
-    loop-again
+    add-second
+    mul-third
+    add-third
+    mul-fourth
+    add-fourth
+    shared-slice-read-result
+    shared-slice-read-result-2
+    shared-slice-read-result-3
+    shared-slice-read-result-4
+    mul-result
+    add-result
+    mul-result-2
+    add-result-2
+    mul-result-3
+    add-result-3
     returns)
