@@ -29,7 +29,7 @@ module _ (at d : ℕ) (s : List ℕ) where
       ap₂ (λ (p q : ℕ). getD s at 0 + 2 * (getD s (at + d) 0 + 2 * (getD s p 0 + 2 * getD s q 0))) (sym third) (sym fourth) ∙ (omega arith)
 
   -- they are written from the first to the last
-  pub placed-four : (a b c e : ℕ) → 0 < d
+  placed-four : (a b c e : ℕ) → 0 < d
       → set (set (set (set s at a) (at + d) b) (at + 2 * d) c) (at + 3 * d) e ≡ placed at d (a ∷ b ∷ c ∷ e ∷ []) s
   placed-four a b c e h =
       ap₂ (λ (p q : ℕ). set (set (set (set s at a) (at + d) b) p c) q e) (sym third) (sym fourth)

@@ -3,7 +3,6 @@ use crate::layer;
 use crate::table;
 ghost use mathlib.Core.Path.{_≡_};
 ghost use Prim.Native.Nat.{_<_};
-ghost use lib.ListN.{length};
 ghost use Rattle.spec.specs.Bits.{bitsOf, packed};
 ghost use Rattle.spec.specs.Transform.{transform, inverse};
 ghost use Rattle.transform.specs.Strided.{Strided, picked, placed};
