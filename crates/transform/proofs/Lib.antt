@@ -1,7 +1,8 @@
 mod EveryEntry
 mod Halving
 mod Layers
-mod Passes
+mod Joining
 mod ShortWords
+mod Splitting
 mod Strides
 mod WholeSlice

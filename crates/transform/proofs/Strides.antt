@@ -25,7 +25,7 @@ pub bits-picked : {s : List ℕ} (at d k : ℕ) → Bits s → Bits (picked at d
 bits-picked at d zero b = nil
 bits-picked at d (suc k) b = cons (bits-at b at) (bits-picked (at + d) d k b)
 
-bits-set : {s : List ℕ} (i x : ℕ) → x < 2 → Bits s → Bits (set s i x)
+pub bits-set : {s : List ℕ} (i x : ℕ) → x < 2 → Bits s → Bits (set s i x)
 bits-set i x h nil = nil
 bits-set zero x h (cons a b) = cons h b
 bits-set (suc i) x h (cons a b) = cons a (bits-set i x h b)
@@ -46,7 +46,7 @@ set-before at d (x ∷ w) s j v h =
     ap (λ (t : List ℕ). set t at x) (set-before (at + d) d w s j v (omega arith))
     ∙ set-comm (placed (at + d) d w s) j at v x (λ (e : j ≡ at). omega arith)
 
-picked-set : (at d k : ℕ) (s : List ℕ) (j v : ℕ) → j < at → picked at d k (set s j v) ≡ picked at d k s
+pub picked-set : (at d k : ℕ) (s : List ℕ) (j v : ℕ) → j < at → picked at d k (set s j v) ≡ picked at d k s
 picked-set at d zero s j v h = refl
 picked-set at d (suc k) s j v h =
     ap₂ _∷_ (getD-set-other s j at v 0 (λ (e : at ≡ j). omega arith)) (picked-set (at + d) d k s j v (omega arith))
