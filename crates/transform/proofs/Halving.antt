@@ -3,8 +3,7 @@ use mathlib.Core.Path.{_≡_}
 use mathlib.Core.List.{List}
 use Prim.Native.Nat.{ℕ, suc, _+_, _-_, _*_, _/_, _^_, _<_}
 use native.Mathlib.Omega.{arith}
-use Rattle.spec.specs.Transform.{inputA, inputB, joined, transform, inverse}
-use Rattle.transform.specs.Strided.{Strided, Halved, picked, placed}
+use Rattle.transform.specs.Strided.{Strided, Halved, splitAt, joinAt, transformAt, inverseAt}
 use Rattle.transform.proofs.Layers.{doubled, half-first, half-second, after-split, after-transform, after-inverse, transform-layer, inverse-layer}
 
 module _ {m h at d : ℕ} {s : List ℕ} (w : Halved m h at d s) (more : 3 < m) where
@@ -31,37 +30,36 @@ module _ {m h at d : ℕ} {s : List ℕ} (w : Halved m h at d s) (more : 3 < m) 
   call g = record { least = omega arith; half = quarter-is; lies = g }
 
   -- ---- the transform: split, then each half
-  module _ {s₁ : List ℕ}
-      (q : s₁ ≡ placed at (2 * d) (inputA (picked at d (2 * h) s)) (placed (at + d) (2 * d) (inputB (picked at d (2 * h) s)) s)) where
-    splits : s₁ ≡ placed at (2 * d) (inputA (picked at d (2 * 2 ^ (m - 1)) s)) (placed (at + d) (2 * d) (inputB (picked at d (2 * 2 ^ (m - 1)) s)) s)
+  module _ {s₁ : List ℕ} (q : s₁ ≡ splitAt at d h s) where
+    splits : s₁ ≡ splitAt at d (2 ^ (m - 1)) s
     splits = rw half-is at q
 
     pub transform-first : Halved (m - 1) (h / 2) at (2 * d) s₁
     transform-first = call (half-first (2 ^ (m - 1)) (after-split (m - 1) halves splits))
 
-    module _ {s₂ : List ℕ} (q₂ : s₂ ≡ placed at (2 * d) (transform (m - 1) (picked at (2 * d) (2 ^ (m - 1)) s₁)) s₁) where
+    module _ {s₂ : List ℕ} (q₂ : s₂ ≡ transformAt at (2 * d) (m - 1) s₁) where
       pub transform-second : Halved (m - 1) (h / 2) (at + d) (2 * d) s₂
-      transform-second = call (half-second (2 ^ (m - 1)) (after-transform (m - 1) at (2 * d) (2 ^ (m - 1)) q₂ (after-split (m - 1) halves splits)))
+      transform-second = call (half-second (2 ^ (m - 1)) (after-transform at (2 * d) (m - 1) q₂ (after-split (m - 1) halves splits)))
 
-      pub transform-done : {s₃ : List ℕ} → s₃ ≡ placed (at + d) (2 * d) (transform (m - 1) (picked (at + d) (2 * d) (2 ^ (m - 1)) s₂)) s₂
-          → s₃ ≡ placed at d (transform m (picked at d (2 ^ m) s)) s
+      pub transform-done : {s₃ : List ℕ} → s₃ ≡ transformAt (at + d) (2 * d) (m - 1) s₂
+          → s₃ ≡ transformAt at d m s
       transform-done q₃ = rw (up, two-halves) at (transform-layer (m - 1) halves splits q₂ q₃)
 
   -- ---- the inverse: each half, then join
   pub inverse-first : Halved (m - 1) (h / 2) at (2 * d) s
   inverse-first = call (half-first (2 ^ (m - 1)) halves)
 
-  module _ {s₁ : List ℕ} (q₁ : s₁ ≡ placed at (2 * d) (inverse (m - 1) (picked at (2 * d) (2 ^ (m - 1)) s)) s) where
+  module _ {s₁ : List ℕ} (q₁ : s₁ ≡ inverseAt at (2 * d) (m - 1) s) where
     after-first : Strided (2 * 2 ^ (m - 1)) at d s₁
-    after-first = after-inverse (m - 1) at (2 * d) (2 ^ (m - 1)) q₁ halves
+    after-first = after-inverse at (2 * d) (m - 1) q₁ halves
 
     pub inverse-second : Halved (m - 1) (h / 2) (at + d) (2 * d) s₁
     inverse-second = call (half-second (2 ^ (m - 1)) after-first)
 
-    module _ {s₂ : List ℕ} (q₂ : s₂ ≡ placed (at + d) (2 * d) (inverse (m - 1) (picked (at + d) (2 * d) (2 ^ (m - 1)) s₁)) s₁) where
+    module _ {s₂ : List ℕ} (q₂ : s₂ ≡ inverseAt (at + d) (2 * d) (m - 1) s₁) where
       pub for-join : Strided (2 * h) at d s₂
-      for-join = rw half-is (after-inverse (m - 1) (at + d) (2 * d) (2 ^ (m - 1)) q₂ after-first)
+      for-join = rw half-is (after-inverse (at + d) (2 * d) (m - 1) q₂ after-first)
 
-      pub inverse-done : {s₃ : List ℕ} → s₃ ≡ placed at d (joined (picked at (2 * d) h s₂) (picked (at + d) (2 * d) h s₂)) s₂
-          → s₃ ≡ placed at d (inverse m (picked at d (2 ^ m) s)) s
+      pub inverse-done : {s₃ : List ℕ} → s₃ ≡ joinAt at d h s₂
+          → s₃ ≡ inverseAt at d m s
       inverse-done q₃ = rw (up, two-halves) at (inverse-layer (m - 1) halves q₁ q₂ (rw half-is at q₃))

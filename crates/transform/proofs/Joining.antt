@@ -11,8 +11,9 @@ use Rattle.spec.specs.Bits.{_⊕_}
 use Rattle.spec.specs.Transform.{firstBit, joined}
 use Rattle.laws.specs.BitLaws.{⊕-xor, bits-at, bits-first}
 use Rattle.laws.specs.Inverse.{bits-joined}
-use Rattle.transform.specs.Strided.{Strided, picked, placed}
-use Rattle.transform.proofs.Strides.{length-placed, bits-picked, get-before}
+use Rattle.transform.specs.Strided.{Strided, picked, placed, joinAt}
+use Rattle.transform.proofs.Layers.{twice}
+use Rattle.transform.proofs.Strides.{length-placed, bits-picked, get-before, one-less}
 
 -- the pairs from i on, h - k of them, joined
 abbrev rest : ℕ → ℕ → ℕ → ℕ → List ℕ → List ℕ
@@ -30,7 +31,7 @@ none-joined h at d g =
     record { left = omega arith; place = ap (λ (l : ℕ). at + l) (g .long ∙ (omega arith)); done = rw none }
 
 pub joined-all : {h at d : ℕ} {s₀ s : List ℕ} {k i : ℕ} → k ≡ 0 → Joined h at d s₀ s k i
-    → s ≡ placed at d (joined (picked at (2 * d) h s₀) (picked (at + d) (2 * d) h s₀)) s₀
+    → s ≡ joinAt at d h s₀
 joined-all {h} {at} {d} {s₀} {s} {k} {i} e t =
     let all : h - k ≡ h = omega arith in
     let front : i ≡ at = t .place ∙ (rw e (omega arith)) in
@@ -43,21 +44,16 @@ module _ {h at d : ℕ} {s₀ s : List ℕ} {k i : ℕ} (g : Strided (2 * h) at 
   pub kept : length s ≡ length s₀
   kept = ap length (t .done) ∙ length-placed i d (rest h d k i s₀) s₀
 
-  all : length s₀ ≡ 2 * d * h
-  all = g .long ∙ (omega arith)
-
   -- ---- the pair of the next turn, at i - 2 d and at i - d
   module _ (n : 0 < k) where
     pairs : 2 * d * k ≡ 2 * d * (k - 1) + 2 * d
-    pairs =
-        let more : suc (k - 1) ≡ k = omega arith in
-        ap (λ (j : ℕ). 2 * d * j) (sym more) ∙ (omega arith)
+    pairs = one-less (2 * d) k n
 
     pub step-fits : 2 * d ≤ i
     step-fits = omega (arith, t .place, pairs)
 
     pub second-fits : i - 2 * d + d < length s
-    second-fits = rw kept (omega (arith, t .place, pairs, g .first, all, mul-le-mul-left (2 * d) (t .left)))
+    second-fits = rw kept (omega (arith, t .place, pairs, g .first, twice h g, mul-le-mul-left (2 * d) (t .left)))
 
     unread : (q : ℕ) → q < i → getD s q 0 ≡ getD s₀ q 0
     unread q l = ap (λ (r : List ℕ). getD r q 0) (t .done) ∙ get-before i d (rest h d k i s₀) s₀ q l
@@ -94,7 +90,7 @@ module _ {h at d : ℕ} {s₀ s : List ℕ} {k i : ℕ} (g : Strided (2 * h) at 
   pub front-fits : k < h → i + d < length s
   front-fits n =
       let more : 2 * d * suc k ≡ 2 * d * k + 2 * d = omega arith in
-      rw kept (omega (arith, t .place, more, g .first, all, mul-le-mul-left (2 * d) n))
+      rw kept (omega (arith, t .place, more, g .first, twice h g, mul-le-mul-left (2 * d) n))
 
   front : k < h → getD s i 0 ≡ firstBit (rest h d k i s₀)
   front n =

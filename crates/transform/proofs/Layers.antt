@@ -10,7 +10,7 @@ use Rattle.spec.specs.Transform.{inputA, inputB, interleave, evens, odds, joine
 use Rattle.laws.specs.BitLaws.{bits-inputA, bits-inputB}
 use Rattle.laws.specs.Layer.{length-transform}
 use Rattle.laws.specs.Inverse.{bits-transform, bits-inverse, length-inputA-pow, length-inputB-pow, length-inverse}
-use Rattle.transform.specs.Strided.{Strided, picked, placed}
+use Rattle.transform.specs.Strided.{Strided, picked, placed, splitAt, joinAt, transformAt, inverseAt}
 use Rattle.transform.proofs.Strides.{length-picked, length-placed, bits-picked, bits-placed, placed-again, picked-placed, picked-second, picked-first, crossed, evens-picked, odds-picked, placed-halves}
 
 pub doubled : (m : ℕ) → 0 < m → 2 * 2 ^ (m - 1) ≡ 2 ^ m
@@ -27,12 +27,12 @@ after {w = w} {s} {t} a e q b g =
     let l : length t ≡ length s = ap length q ∙ length-placed a e w s in
     record { some = g .some; first = g .first; long = l ∙ g .long; fits = rw l (g .fits); bits = rw q (bits-placed a e b (g .bits)) }
 
-module _ {k at d : ℕ} {s t : List ℕ} (m a e n : ℕ) where
-  pub after-transform : t ≡ placed a e (transform m (picked a e n s)) s → Strided k at d s → Strided k at d t
-  after-transform q g = after a e q (bits-transform m (bits-picked a e n (g .bits))) g
+module _ {k at d : ℕ} {s t : List ℕ} (a e m : ℕ) where
+  pub after-transform : t ≡ transformAt a e m s → Strided k at d s → Strided k at d t
+  after-transform q g = after a e q (bits-transform m (bits-picked a e (2 ^ m) (g .bits))) g
 
-  pub after-inverse : t ≡ placed a e (inverse m (picked a e n s)) s → Strided k at d s → Strided k at d t
-  after-inverse q g = after a e q (bits-inverse m (bits-picked a e n (g .bits))) g
+  pub after-inverse : t ≡ inverseAt a e m s → Strided k at d s → Strided k at d t
+  after-inverse q g = after a e q (bits-inverse m (bits-picked a e (2 ^ m) (g .bits))) g
 
 same-length : (p q : List ℕ) → length (interleave p q) ≡ length (joined p q)
 same-length [] q = refl
@@ -43,7 +43,7 @@ module _ (h : ℕ) {at d : ℕ} {s : List ℕ} (g : Strided (2 * h) at d s) wher
   positive : 0 < d
   positive = omega (arith, g .first)
 
-  twice : length s ≡ 2 * d * h
+  pub twice : length s ≡ 2 * d * h
   twice = g .long ∙ (omega arith)
 
   pub half-first : Strided h at (2 * d) s
@@ -94,7 +94,7 @@ module _ (h : ℕ) {at d : ℕ} {s : List ℕ} (g : Strided (2 * h) at d s) wher
       → {s₁ s₂ s₃ : List ℕ}
       → s₁ ≡ placed at (2 * d) (f (picked at (2 * d) h s)) s
       → s₂ ≡ placed (at + d) (2 * d) (f (picked (at + d) (2 * d) h s₁)) s₁
-      → s₃ ≡ placed at d (joined (picked at (2 * d) h s₂) (picked (at + d) (2 * d) h s₂)) s₂
+      → s₃ ≡ joinAt at d h s₂
       → s₃ ≡ placed at d (joined (f a) (f b)) s
   unlayered f a b pa pb fa fb {s₁} {s₂} {s₃} e₁ e₂ e₃ =
       let t : List ℕ = placed at (2 * d) (f a) s in
@@ -121,15 +121,13 @@ module _ (m : ℕ) {at d : ℕ} {s : List ℕ} (g : Strided (2 * 2 ^ m) at d s) 
   bits-word = bits-picked at d (2 * 2 ^ m) (g .bits)
 
   -- the slice once the inputs of the halves are placed, and once the first half is transformed
-  pub after-split : {s₁ : List ℕ}
-      → s₁ ≡ placed at (2 * d) (inputA (picked at d (2 * 2 ^ m) s)) (placed (at + d) (2 * d) (inputB (picked at d (2 * 2 ^ m) s)) s)
-      → Strided (2 * 2 ^ m) at d s₁
+  pub after-split : {s₁ : List ℕ} → s₁ ≡ splitAt at d (2 ^ m) s → Strided (2 * 2 ^ m) at d s₁
   after-split q = after at (2 * d) q (bits-inputA bits-word) (after (at + d) (2 * d) refl (bits-inputB bits-word) g)
 
   pub transform-layer : {s₁ s₂ s₃ : List ℕ}
-      → s₁ ≡ placed at (2 * d) (inputA (picked at d (2 * 2 ^ m) s)) (placed (at + d) (2 * d) (inputB (picked at d (2 * 2 ^ m) s)) s)
-      → s₂ ≡ placed at (2 * d) (transform m (picked at (2 * d) (2 ^ m) s₁)) s₁
-      → s₃ ≡ placed (at + d) (2 * d) (transform m (picked (at + d) (2 * d) (2 ^ m) s₂)) s₂
+      → s₁ ≡ splitAt at d (2 ^ m) s
+      → s₂ ≡ transformAt at (2 * d) m s₁
+      → s₃ ≡ transformAt (at + d) (2 * d) m s₂
       → s₃ ≡ placed at d (transform (suc m) (picked at d (2 * 2 ^ m) s)) s
   unfolding transform
   transform-layer =
@@ -139,9 +137,9 @@ module _ (m : ℕ) {at d : ℕ} {s : List ℕ} (g : Strided (2 * 2 ^ m) at d s) 
       layered (2 ^ m) g (transform m) (inputA u) (inputB u) la lb (length-transform m (inputA u) la) (length-transform m (inputB u) lb)
 
   pub inverse-layer : {s₁ s₂ s₃ : List ℕ}
-      → s₁ ≡ placed at (2 * d) (inverse m (picked at (2 * d) (2 ^ m) s)) s
-      → s₂ ≡ placed (at + d) (2 * d) (inverse m (picked (at + d) (2 * d) (2 ^ m) s₁)) s₁
-      → s₃ ≡ placed at d (joined (picked at (2 * d) (2 ^ m) s₂) (picked (at + d) (2 * d) (2 ^ m) s₂)) s₂
+      → s₁ ≡ inverseAt at (2 * d) m s
+      → s₂ ≡ inverseAt (at + d) (2 * d) m s₁
+      → s₃ ≡ joinAt at d (2 ^ m) s₂
       → s₃ ≡ placed at d (inverse (suc m) (picked at d (2 * 2 ^ m) s)) s
   unfolding inverse
   inverse-layer =

@@ -10,19 +10,15 @@ use Rattle.spec.specs.Bits.{_⊕_, Bits}
 use Rattle.spec.specs.Transform.{inputA, inputB, firstBit}
 use Rattle.laws.specs.BitLaws.{⊕-lt, ⊕-xor, bits-at}
 use Rattle.laws.specs.Inverse.{inputA-cons, inputB-cons}
-use Rattle.transform.specs.Strided.{Strided, picked, placed}
-use Rattle.transform.proofs.Strides.{bits-set, set-before, picked-set}
-
--- the slice with the word of 2 k bits at `at` split
-abbrev split : ℕ → ℕ → ℕ → List ℕ → List ℕ
-split at d k s = placed at (2 * d) (inputA (picked at d (2 * k) s)) (placed (at + d) (2 * d) (inputB (picked at d (2 * k) s)) s)
+use Rattle.transform.specs.Strided.{Strided, picked, placed, splitAt}
+use Rattle.transform.proofs.Strides.{bits-set, set-before, picked-set, one-more, one-less}
 
 -- where the loop stands: k + 1 pairs are left from i on, and to split these is what is left of the whole
 pub record Split (h at d : ℕ) (s₀ s : List ℕ) (k i : ℕ) : Type 0 where
   pub place : i + 2 * d * suc k ≡ at + length s₀
   pub kept : length s ≡ length s₀
   pub bits : Bits s
-  pub rest : split at d h s₀ ≡ split i d (suc k) s
+  pub rest : splitAt at d h s₀ ≡ splitAt i d (suc k) s
 
 pub split-none : (h at d : ℕ) {s : List ℕ} → Strided (2 * h) at d s → Split h at d s s (h - 1) at
 split-none h at d {s} g =
@@ -39,9 +35,6 @@ front-pair j d a b p q s h =
     ∙ sym (set-before (j + 2 * d) (2 * d) p (placed (j + 2 * d + d) (2 * d) q (set s (j + d) b)) j a (omega arith))
     ∙ ap (placed (j + 2 * d) (2 * d) p) (sym (set-before (j + 2 * d + d) (2 * d) q (set s (j + d) b) j a (omega arith)))
 
-twice : (k : ℕ) → 2 * suc k ≡ suc (suc (2 * k))
-twice k = omega arith
-
 module _ {h at d : ℕ} {s₀ s : List ℕ} {k i : ℕ} (g : Strided (2 * h) at d s₀) (t : Split h at d s₀ s k i) where
   room : 0 < d
   room = omega (arith, g .first)
@@ -53,10 +46,7 @@ module _ {h at d : ℕ} {s₀ s : List ℕ} {k i : ℕ} (g : Strided (2 * h) at 
   second-fits = omega (arith, t .place, t .kept, pairs, g .first)
 
   pub third-fits : 0 < k → i + 2 * d < length s
-  third-fits n =
-      let more : suc (k - 1) ≡ k = omega arith in
-      let again : 2 * d * k ≡ 2 * d * (k - 1) + 2 * d = ap (λ (j : ℕ). 2 * d * j) (sym more) ∙ (omega arith) in
-      omega (arith, t .place, t .kept, pairs, again, g .first)
+  third-fits n = omega (arith, t .place, t .kept, pairs, one-less (2 * d) k n, g .first)
 
   -- ---- a pair that another one follows
   pub split-turn : 0 < k → Split h at d s₀
@@ -75,9 +65,9 @@ module _ {h at d : ℕ} {s₀ s : List ℕ} {k i : ℕ} (g : Strided (2 * h) at 
       = ap₂ bitXor rx eb ∙ sym (⊕-xor x (y ⊕ z) hx (⊕-lt y z hy)) in
       let less : suc (k - 1) ≡ k = omega arith in
       let further : List ℕ = picked (i + 2 * d) d (2 * k) s in
-      let front : firstBit further ≡ z = ap (λ (c : ℕ). firstBit (picked (i + 2 * d) d (2 * c) s)) (sym less) ∙ (rw (twice (k - 1))) in
+      let front : firstBit further ≡ z = ap (λ (c : ℕ). firstBit (picked (i + 2 * d) d (2 * c) s)) (sym less) ∙ (rw (one-more (k - 1))) in
       let word : picked i d (2 * suc k) s ≡ x ∷ y ∷ further
-      = ap (λ (c : ℕ). picked i d c s) (twice k) ∙ ap (λ (q : ℕ). x ∷ y ∷ picked q d (2 * k) s) (omega arith) in
+      = ap (λ (c : ℕ). picked i d c s) (one-more k) ∙ ap (λ (q : ℕ). x ∷ y ∷ picked q d (2 * k) s) (omega arith) in
       let t′ : List ℕ = set (set s (i + d) (y ⊕ z)) i (x ⊕ (y ⊕ z)) in
       let same : picked (i + 2 * d) d (2 * k) t′ ≡ further
       = picked-set (i + 2 * d) d (2 * k) (set s (i + d) (y ⊕ z)) i (x ⊕ (y ⊕ z)) (omega (arith, room))
@@ -92,16 +82,16 @@ module _ {h at d : ℕ} {s₀ s : List ℕ} {k i : ℕ} (g : Strided (2 * h) at 
             ∙ ap (λ (f : ℕ). placed i (2 * d) ((x ⊕ (y ⊕ f)) ∷ inputA further) (placed (i + d) (2 * d) ((y ⊕ f) ∷ inputB further) s)) front
             ∙ front-pair i d (x ⊕ (y ⊕ z)) (y ⊕ z) (inputA further) (inputB further) s room
             ∙ ap (λ (w : List ℕ). placed (i + 2 * d) (2 * d) (inputA w) (placed (i + 2 * d + d) (2 * d) (inputB w) t′)) (sym same)
-            ∙ ap (λ (c : ℕ). split (i + 2 * d) d c t′) (sym less);
+            ∙ ap (λ (c : ℕ). splitAt (i + 2 * d) d c t′) (sym less);
       })
 
   -- ---- the last pair
-  pub split-last : k ≡ 0 → set s i (bitXor (getD s i 0) (getD s (i + d) 0)) ≡ split at d h s₀
+  pub split-last : k ≡ 0 → set s i (bitXor (getD s i 0) (getD s (i + d) 0)) ≡ splitAt at d h s₀
   split-last e =
       let x : ℕ = getD s i 0 in
       let y : ℕ = getD s (i + d) 0 in
       let ea : bitXor x y ≡ x ⊕ y = sym (⊕-xor x y (bits-at (t .bits) i) (bits-at (t .bits) (i + d))) in
       ap (set s i) ea
       ∙ ap (λ (r : List ℕ). set r i (x ⊕ y)) (sym (set-getD s (i + d) 0))
-      ∙ ap (λ (c : ℕ). split i d (suc c) s) (sym e)
+      ∙ ap (λ (c : ℕ). splitAt i d (suc c) s) (sym e)
       ∙ sym (t .rest)

@@ -2,7 +2,7 @@
 -- Assumes nothing.
 use mathlib.Core.Path.{_≡_, refl, sym, ap, ap₂, _∙_}
 use mathlib.Core.List.{List, [], _∷_, _++_, append-nil}
-use Prim.Native.Nat.{ℕ, zero, suc, _+_, _*_, _<_}
+use Prim.Native.Nat.{ℕ, zero, suc, _+_, _-_, _*_, _<_}
 use native.Mathlib.Omega.{arith}
 use native.Mathlib.Numerals.{add-one}
 use lib.ListN.{length, take, drop, getD, set, length-set, drop-of-length-le}
@@ -104,8 +104,13 @@ module _ (d : ℕ) where
 next-pair : (at d : ℕ) → at + d + d ≡ at + 2 * d
 next-pair at d = omega arith
 
-one-more : (k : ℕ) → 2 * suc k ≡ suc (suc (2 * k))
+pub one-more : (k : ℕ) → 2 * suc k ≡ suc (suc (2 * k))
 one-more k = omega arith
+
+pub one-less : (e k : ℕ) → 0 < k → e * k ≡ e * (k - 1) + e
+one-less e k h =
+    let up : suc (k - 1) ≡ k = omega arith in
+    ap (λ (j : ℕ). e * j) (sym up) ∙ (omega arith)
 
 pub evens-picked : (at d k : ℕ) (s : List ℕ) → evens (picked at d (2 * k) s) ≡ picked at (2 * d) k s
 evens-picked at d zero s = refl

@@ -8,7 +8,7 @@ use lib.Pow.{pow-mono}
 use Rattle.spec.specs.Transform.{transform, inverse}
 use Rattle.laws.specs.Layer.{length-transform}
 use Rattle.laws.specs.Inverse.{length-inverse}
-use Rattle.transform.specs.Strided.{Strided, Halved, picked, placed}
+use Rattle.transform.specs.Strided.{Strided, Halved, picked, placed, transformAt, inverseAt}
 use Rattle.transform.specs.Word.{Word}
 use Rattle.transform.proofs.Layers.{doubled}
 use Rattle.transform.proofs.Strides.{picked-whole, placed-whole}
@@ -33,8 +33,8 @@ module _ {m : ℕ} {s : List ℕ} (w : Word m s) where
       ∙ ap (λ (v : List ℕ). placed 0 1 (f v) s) (picked-whole s)
       ∙ placed-whole (f s) s (l ∙ sym (w .long))
 
-  pub transform-whole : {t : List ℕ} → t ≡ placed 0 1 (transform m (picked 0 1 (2 ^ m) s)) s → t ≡ transform m s
+  pub transform-whole : {t : List ℕ} → t ≡ transformAt 0 1 m s → t ≡ transform m s
   transform-whole = whole-is (transform m) (length-transform m s (w .long))
 
-  pub inverse-whole : {t : List ℕ} → t ≡ placed 0 1 (inverse m (picked 0 1 (2 ^ m) s)) s → t ≡ inverse m s
+  pub inverse-whole : {t : List ℕ} → t ≡ inverseAt 0 1 m s → t ≡ inverse m s
   inverse-whole = whole-is (inverse m) (length-inverse m s (w .long))

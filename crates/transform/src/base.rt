@@ -4,8 +4,7 @@ use crate::table;
 ghost use mathlib.Core.Path.{_≡_};
 ghost use Prim.Native.Nat.{_<_};
 ghost use Rattle.spec.specs.Bits.{bitsOf, packed};
-ghost use Rattle.spec.specs.Transform.{transform, inverse};
-ghost use Rattle.transform.specs.Strided.{Strided, picked, placed};
+ghost use Rattle.transform.specs.Strided.{Strided, picked, placed, transformAt, inverseAt};
 
 // The number whose bits these are, lowest first.
 fn pack(s: &[u8], at: usize, d: usize) -> u8
@@ -31,7 +30,7 @@ fn unpack(s: &mut [u8], at: usize, d: usize, x: u8)
 
 pub(crate) fn transform_four(s: &mut [u8], at: usize, d: usize)
     requires { ⌜ Strided 4 at d (now s) ⌝ }
-    ensures { λ _. ⌜ now (s .exit) ≡ placed at d (transform 2 (picked at d 4 (now (s .entry)))) (now (s .entry)) ⌝ }
+    ensures { λ _. ⌜ now (s .exit) ≡ transformAt at d 2 (now (s .entry)) ⌝ }
 {
     let x = pack(s, at, d);
     let y = table::entry(x);
@@ -40,7 +39,7 @@ pub(crate) fn transform_four(s: &mut [u8], at: usize, d: usize)
 
 pub(crate) fn invert_four(s: &mut [u8], at: usize, d: usize)
     requires { ⌜ Strided 4 at d (now s) ⌝ }
-    ensures { λ _. ⌜ now (s .exit) ≡ placed at d (inverse 2 (picked at d 4 (now (s .entry)))) (now (s .entry)) ⌝ }
+    ensures { λ _. ⌜ now (s .exit) ≡ inverseAt at d 2 (now (s .entry)) ⌝ }
 {
     let x = pack(s, at, d);
     let y = table::inverse_entry(x);
@@ -49,7 +48,7 @@ pub(crate) fn invert_four(s: &mut [u8], at: usize, d: usize)
 
 pub(crate) fn transform_eight(s: &mut [u8], at: usize, d: usize)
     requires { ⌜ Strided 8 at d (now s) ⌝ }
-    ensures { λ _. ⌜ now (s .exit) ≡ placed at d (transform 3 (picked at d 8 (now (s .entry)))) (now (s .entry)) ⌝ }
+    ensures { λ _. ⌜ now (s .exit) ≡ transformAt at d 3 (now (s .entry)) ⌝ }
 {
     layer::split(s, at, d, 4);
     transform_four(s, at, 2 * d);
@@ -58,7 +57,7 @@ pub(crate) fn transform_eight(s: &mut [u8], at: usize, d: usize)
 
 pub(crate) fn invert_eight(s: &mut [u8], at: usize, d: usize)
     requires { ⌜ Strided 8 at d (now s) ⌝ }
-    ensures { λ _. ⌜ now (s .exit) ≡ placed at d (inverse 3 (picked at d 8 (now (s .entry)))) (now (s .entry)) ⌝ }
+    ensures { λ _. ⌜ now (s .exit) ≡ inverseAt at d 3 (now (s .entry)) ⌝ }
 {
     invert_four(s, at, 2 * d);
     invert_four(s, at + d, 2 * d);

@@ -5,16 +5,15 @@ mod layer;
 mod table;
 
 ghost use mathlib.Core.Path.{_≡_};
-ghost use Prim.Native.Nat.{_^_};
 ghost use Rattle.spec.specs.Transform.{transform, inverse};
-ghost use Rattle.transform.specs.Strided.{Halved, picked, placed};
+ghost use Rattle.transform.specs.Strided.{Halved, transformAt, inverseAt};
 ghost use Rattle.transform.specs.Word.{Word};
 
 // The transform: length 4 by the table, length 8 by its halves at once, above that by calling itself on each half: the even places of the
 // result are the transform of a, the odd ones that of b. Half of the length is h.
 fn transform_at(s: &mut [u8], m: u32, h: usize, at: usize, d: usize)
     requires { ⌜ Halved m h at d (now s) ⌝ }
-    ensures { λ _. ⌜ now (s .exit) ≡ placed at d (transform m (picked at d (2 ^ m) (now (s .entry)))) (now (s .entry)) ⌝ }
+    ensures { λ _. ⌜ now (s .exit) ≡ transformAt at d m (now (s .entry)) ⌝ }
 {
     if m == 2 {
         base::transform_four(s, at, d);
@@ -32,7 +31,7 @@ fn transform_at(s: &mut [u8], m: u32, h: usize, at: usize, d: usize)
 // The inverse, in the same steps: a is the inverse of the even places, b that of the odd ones.
 fn invert_at(s: &mut [u8], m: u32, h: usize, at: usize, d: usize)
     requires { ⌜ Halved m h at d (now s) ⌝ }
-    ensures { λ _. ⌜ now (s .exit) ≡ placed at d (inverse m (picked at d (2 ^ m) (now (s .entry)))) (now (s .entry)) ⌝ }
+    ensures { λ _. ⌜ now (s .exit) ≡ inverseAt at d m (now (s .entry)) ⌝ }
 {
     if m == 2 {
         base::invert_four(s, at, d);
@@ -47,6 +46,7 @@ fn invert_at(s: &mut [u8], m: u32, h: usize, at: usize, d: usize)
     layer::join(s, at, d, h);
 }
 
+// The whole slice is the word.
 pub fn transform_word(s: &mut [u8], m: u32)
     requires { ⌜ Word m (now s) ⌝ }
     ensures { λ _. ⌜ now (s .exit) ≡ transform m (now (s .entry)) ⌝ }

@@ -1,13 +1,12 @@
 -- The proof of the cycle of calls {invert_at}. The measure is m; each call works on a half. Assumes nothing.
 use mathlib.Core.Path.{_≡_}
 use mathlib.Core.List.{List}
-use Prim.Native.Nat.{ℕ, _-_, _^_, _≤_, _<_}
+use Prim.Native.Nat.{ℕ, _-_, _≤_, _<_}
 use native.Mathlib.Omega.{arith}
 use borrow.Fn.Kinds.{In}
 use borrow.Fn.PlainCycle.{Measures, is, falls, and}
 use borrow.Author.Needs.{needs}
-use Rattle.spec.specs.Transform.{inverse}
-use Rattle.transform.specs.Strided.{Halved, picked, placed}
+use Rattle.transform.specs.Strided.{Halved, inverseAt}
 use Rattle.transform.proofs.Layers.{stride-fits}
 use Rattle.transform.proofs.Halving.{inverse-first, inverse-second, for-join, inverse-done}
 use Rattle.transform.proofs.invert_at.Reads as word
@@ -67,9 +66,8 @@ module _ (t : ℕ) where
   room c = stride-fits (given c .lies)
 
 -- ---- the shortest words, whose m is known
-done : (t : ℕ) (c : Start t) {k : ℕ} {s : List ℕ} → c .args .m ≡ k
-    → s ≡ placed (c .args .at) (c .args .d) (inverse k (picked (c .args .at) (c .args .d) (2 ^ k) (c .args .s .now))) (c .args .s .now)
-    → s ≡ placed (c .args .at) (c .args .d) (inverse (c .args .m) (picked (c .args .at) (c .args .d) (2 ^ c .args .m) (c .args .s .now))) (c .args .s .now)
+done : (t : ℕ) (c : Start t) {k : ℕ} {s : List ℕ} → c .args .m ≡ k → s ≡ inverseAt (c .args .at) (c .args .d) k (c .args .s .now)
+    → s ≡ inverseAt (c .args .at) (c .args .d) (c .args .m) (c .args .s .now)
 done t c e q = rw e q
 
 -- ---- the needs

@@ -24,15 +24,15 @@ invert-four-requires-2 : tie.Need-invert-four-requires-2
 invert-four-requires-2 c κs =
     let f = c .before .before .before in
     let g = f .before .before .before in
-    half-second 4 (after-inverse 2 (g .args .at) (2 * g .args .d) 4 (f .invert-four .ensures) (g .pre))
+    half-second 4 (after-inverse (g .args .at) (2 * g .args .d) 2 (f .invert-four .ensures) (g .pre))
 
 join-requires : tie.Need-join-requires
 join-requires c κs =
     let l = c .before .before .before in
     let f = l .before .before .before .before in
     let g = f .before .before .before in
-    after-inverse 2 (g .args .at + g .args .d) (2 * g .args .d) 4 (l .invert-four2 .ensures)
-    (after-inverse 2 (g .args .at) (2 * g .args .d) 4 (f .invert-four .ensures) (g .pre))
+    after-inverse (g .args .at + g .args .d) (2 * g .args .d) 2 (l .invert-four2 .ensures)
+    (after-inverse (g .args .at) (2 * g .args .d) 2 (f .invert-four .ensures) (g .pre))
 
 same-length : tie.Need-same-length
 same-length c = search needs

@@ -32,7 +32,7 @@ transform-four-requires-2 c κs =
     let f = c .before .before .before in
     let p = f .before .before .before .before in
     let g = p .before .before .before in
-    half-second 4 (after-transform 2 (g .args .at) (2 * g .args .d) 4 (f .transform-four .ensures) (after-split 2 (g .pre) (p .split .ensures)))
+    half-second 4 (after-transform (g .args .at) (2 * g .args .d) 2 (f .transform-four .ensures) (after-split 2 (g .pre) (p .split .ensures)))
 
 same-length : tie.Need-same-length
 same-length c = search needs
