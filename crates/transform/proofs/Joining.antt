@@ -12,7 +12,7 @@ use Rattle.spec.specs.Transform.{firstBit, joined}
 use Rattle.laws.specs.BitLaws.{⊕-xor, bits-at, bits-first}
 use Rattle.laws.specs.Inverse.{bits-joined}
 use Rattle.transform.specs.Strided.{Strided, picked, placed, joinAt}
-use Rattle.transform.proofs.Layers.{twice}
+use Rattle.transform.proofs.Layers.{stride-some, twice}
 use Rattle.transform.proofs.Strides.{length-placed, bits-picked, get-before, one-less}
 
 -- the pairs from i on, h - k of them, joined
@@ -39,7 +39,7 @@ joined-all {h} {at} {d} {s₀} {s} {k} {i} e t =
 
 module _ {h at d : ℕ} {s₀ s : List ℕ} {k i : ℕ} (g : Strided (2 * h) at d s₀) (t : Joined h at d s₀ s k i) where
   room : 0 < d
-  room = omega (arith, g .first)
+  room = stride-some g
 
   pub kept : length s ≡ length s₀
   kept = ap length (t .done) ∙ length-placed i d (rest h d k i s₀) s₀

@@ -18,6 +18,9 @@ doubled m h =
     let up : suc (m - 1) ≡ m = omega arith in
     (omega arith) ∙ ap (λ (k : ℕ). 2 ^ k) up
 
+pub stride-some : {k at d : ℕ} {s : List ℕ} → Strided k at d s → 0 < d
+stride-some g = omega (arith, g .first)
+
 pub stride-fits : {k at d : ℕ} {s : List ℕ} → Strided k at d s → d ≤ 1024
 stride-fits {k} {at} {d} g = omega (arith, g .long, g .fits, mul-le-mul-left d (g .some))
 
@@ -40,9 +43,6 @@ same-length (x ∷ p) [] = refl
 same-length (x ∷ p) (y ∷ q) = ap (λ (k : ℕ). suc (suc k)) (same-length p q)
 
 module _ (h : ℕ) {at d : ℕ} {s : List ℕ} (g : Strided (2 * h) at d s) where
-  positive : 0 < d
-  positive = omega (arith, g .first)
-
   pub twice : length s ≡ 2 * d * h
   twice = g .long ∙ (omega arith)
 
@@ -55,7 +55,7 @@ module _ (h : ℕ) {at d : ℕ} {s : List ℕ} (g : Strided (2 * h) at d s) wher
   own : (a : ℕ) (w t : List ℕ) → a < 2 * d → length w ≡ h → length t ≡ length s → picked a (2 * d) h (placed a (2 * d) w t) ≡ w
   own a w t p e l =
       let in-slice : a + 2 * d * length w < length t + 2 * d = rw (e, l, twice) (omega arith) in
-      rw e at (picked-placed a (2 * d) w t (omega (arith, positive)) in-slice)
+      rw e at (picked-placed a (2 * d) w t (omega (arith, stride-some g)) in-slice)
 
   own-first : (w t : List ℕ) → length w ≡ h → length t ≡ length s → picked at (2 * d) h (placed at (2 * d) w t) ≡ w
   own-first w t = own at w t (omega (arith, g .first))
@@ -64,10 +64,10 @@ module _ (h : ℕ) {at d : ℕ} {s : List ℕ} (g : Strided (2 * h) at d s) wher
   own-second w t = own (at + d) w t (omega (arith, g .first))
 
   between : at < at + d
-  between = omega (arith, positive)
+  between = omega (arith, stride-some g)
 
   within : at + d < at + 2 * d
-  within = omega (arith, positive)
+  within = omega (arith, stride-some g)
 
   -- a and b have been placed as halves, and then f is done to the one and to the other
   layered : (f : List ℕ → List ℕ) (a b : List ℕ) → length a ≡ h → length b ≡ h → length (f a) ≡ h → length (f b) ≡ h → {s₁ s₂ s₃ : List ℕ}
@@ -80,14 +80,14 @@ module _ (h : ℕ) {at d : ℕ} {s : List ℕ} (g : Strided (2 * h) at d s) wher
       let lt : length t ≡ length s = length-placed (at + d) (2 * d) b s in
       let q₁ : picked at (2 * d) h s₁ ≡ a = ap (picked at (2 * d) h) e₁ ∙ own-first a t la lt in
       let r₂ : s₂ ≡ placed at (2 * d) (f a) t
-      = e₂ ∙ ap₂ (λ (w r : List ℕ). placed at (2 * d) (f w) r) q₁ e₁ ∙ placed-again at (2 * d) a (f a) t (omega (arith, positive)) (la ∙ sym fa) in
+      = e₂ ∙ ap₂ (λ (w r : List ℕ). placed at (2 * d) (f w) r) q₁ e₁ ∙ placed-again at (2 * d) a (f a) t (omega (arith, stride-some g)) (la ∙ sym fa) in
       let q₂ : picked (at + d) (2 * d) h s₂ ≡ b
       = ap (picked (at + d) (2 * d) h) r₂ ∙ picked-second (2 * d) at (at + d) h (f a) t between within ∙ own-second b s lb refl in
       e₃
       ∙ ap₂ (λ (w r : List ℕ). placed (at + d) (2 * d) (f w) r) q₂ (r₂ ∙ crossed (2 * d) at (at + d) (f a) b s between within)
-      ∙ placed-again (at + d) (2 * d) b (f b) (placed at (2 * d) (f a) s) (omega (arith, positive)) (lb ∙ sym fb)
+      ∙ placed-again (at + d) (2 * d) b (f b) (placed at (2 * d) (f a) s) (omega (arith, stride-some g)) (lb ∙ sym fb)
       ∙ sym (crossed (2 * d) at (at + d) (f a) (f b) s between within)
-      ∙ sym (placed-halves at d (f a) (f b) s positive (fa ∙ sym fb))
+      ∙ sym (placed-halves at d (f a) (f b) s (stride-some g) (fa ∙ sym fb))
 
   -- f is done to the one half and to the other, and then they are joined
   unlayered : (f : List ℕ → List ℕ) (a b : List ℕ) → picked at (2 * d) h s ≡ a → picked (at + d) (2 * d) h s ≡ b → length (f a) ≡ h → length (f b) ≡ h
@@ -107,10 +107,10 @@ module _ (h : ℕ) {at d : ℕ} {s : List ℕ} (g : Strided (2 * h) at d s) wher
       = ap (picked at (2 * d) h) r₂ ∙ picked-first (2 * d) at (at + d) h (f b) t between within ∙ own-first (f a) s fa refl in
       let qb : picked (at + d) (2 * d) h s₂ ≡ f b = ap (picked (at + d) (2 * d) h) r₂ ∙ own-second (f b) t fb lt in
       let r : s₂ ≡ placed at d (interleave (f a) (f b)) s
-      = r₂ ∙ sym (crossed (2 * d) at (at + d) (f a) (f b) s between within) ∙ sym (placed-halves at d (f a) (f b) s positive (fa ∙ sym fb)) in
+      = r₂ ∙ sym (crossed (2 * d) at (at + d) (f a) (f b) s between within) ∙ sym (placed-halves at d (f a) (f b) s (stride-some g) (fa ∙ sym fb)) in
       e₃
       ∙ ap₂ (placed at d) (ap₂ joined qa qb) r
-      ∙ placed-again at d (interleave (f a) (f b)) (joined (f a) (f b)) s positive (same-length (f a) (f b))
+      ∙ placed-again at d (interleave (f a) (f b)) (joined (f a) (f b)) s (stride-some g) (same-length (f a) (f b))
 
 -- ---- a layer of the transform and one of its inverse, over halves of 2 ^ m bits
 module _ (m : ℕ) {at d : ℕ} {s : List ℕ} (g : Strided (2 * 2 ^ m) at d s) where

@@ -11,6 +11,7 @@ use Rattle.spec.specs.Transform.{inputA, inputB, firstBit}
 use Rattle.laws.specs.BitLaws.{⊕-lt, ⊕-xor, bits-at}
 use Rattle.laws.specs.Inverse.{inputA-cons, inputB-cons}
 use Rattle.transform.specs.Strided.{Strided, picked, placed, splitAt}
+use Rattle.transform.proofs.Layers.{stride-some}
 use Rattle.transform.proofs.Strides.{bits-set, set-before, picked-set, one-more, one-less}
 
 -- where the loop stands: k + 1 pairs are left from i on, and to split these is what is left of the whole
@@ -37,7 +38,7 @@ front-pair j d a b p q s h =
 
 module _ {h at d : ℕ} {s₀ s : List ℕ} {k i : ℕ} (g : Strided (2 * h) at d s₀) (t : Split h at d s₀ s k i) where
   room : 0 < d
-  room = omega (arith, g .first)
+  room = stride-some g
 
   pairs : 2 * d * suc k ≡ 2 * d * k + 2 * d
   pairs = omega arith

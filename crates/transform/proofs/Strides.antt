@@ -101,7 +101,7 @@ module _ (d : ℕ) where
       ∙ ap (λ (t : List ℕ). set t b y) (sym (set-before (b + d) d w (placed (a + d) d v s) a x (omega arith)))
 
 -- ---- a word and its halves, at twice the stride
-next-pair : (at d : ℕ) → at + d + d ≡ at + 2 * d
+pub next-pair : (at d : ℕ) → at + d + d ≡ at + 2 * d
 next-pair at d = omega arith
 
 pub one-more : (k : ℕ) → 2 * suc k ≡ suc (suc (2 * k))
@@ -119,8 +119,7 @@ evens-picked at d (suc k) s = rw (one-more k, ← next-pair at d) (ap (λ (r : L
 pub odds-picked : (at d k : ℕ) (s : List ℕ) → odds (picked at d (2 * k) s) ≡ picked (at + d) (2 * d) k s
 odds-picked at d zero s = refl
 odds-picked at d (suc k) s =
-    let pair : at + d + d + d ≡ at + d + 2 * d = omega arith in
-    rw (one-more k, ← pair) (ap (λ (r : List ℕ). getD s (at + d) 0 ∷ r) (odds-picked (at + d + d) d k s))
+    rw (one-more k, ← next-pair (at + d) d) (ap (λ (r : List ℕ). getD s (at + d) 0 ∷ r) (odds-picked (at + d + d) d k s))
 
 pub placed-halves : (at d : ℕ) (p q s : List ℕ) → 0 < d → length p ≡ length q
     → placed at d (interleave p q) s ≡ placed at (2 * d) p (placed (at + d) (2 * d) q s)

@@ -1,11 +1,6 @@
 -- `transform::base::invert_four` meets its contract: the table's entry, taken three times from the word's number on, has the bits of its inverse. Assumes nothing.
-use mathlib.Core.Path.{ap}
-use mathlib.Core.List.{List}
-use Prim.Native.Nat.{ℕ}
 use borrow.Author.Needs.{needs}
-use Rattle.transform.specs.Strided.{placed}
-use Rattle.transform.proofs.Strides.{length-picked, bits-picked}
-use Rattle.transform.proofs.ShortWords.{inverse-four}
+use Rattle.transform.proofs.ShortWords.{inverse-four-at}
 use Rattle.transform.proofs.base.invert_four.Statement.{statement}
 use Rattle.transform.proofs.base.invert_four.Tie as tie
 
@@ -22,12 +17,7 @@ same-length : tie.Need-same-length
 same-length c = search needs
 
 returns : tie.Need-returns
-returns c =
-    let g : tie.Start = c .before .before .before .before .before .before .before .before in
-    let at : ℕ = g .args .at in
-    let d : ℕ = g .args .d in
-    let s : List ℕ = g .args .s .now in
-    cc (ap (λ (w : List ℕ). placed at d w s) (inverse-four (bits-picked at d 4 (g .pre .bits)) (length-picked at d 4 s)))
+returns c = cc (inverse-four-at (c .before .before .before .before .before .before .before .before .pre))
 
 pub invert-four-spec : {M : Type 1} → statement M
 invert-four-spec = tie.close (tie.spec pack-requires inverse-entry-requires unpack-requires same-length returns)

@@ -52,19 +52,19 @@ shared-slice-read-result-4 : tie.Need-shared-slice-read-result-4
 shared-slice-read-result-4 c = omega arith
 
 mul-result : tie.Need-mul-result
-mul-result c = omega (arith, fourth (c .before .before .before .before))
+mul-result c = omega (arith, first (c .before .before .before .before), second (c .before .before .before .before), third (c .before .before .before .before), fourth (c .before .before .before .before))
 
 add-result : tie.Need-add-result
-add-result c = omega (arith, third (c .before .before .before .before), fourth (c .before .before .before .before))
+add-result c = omega (arith, first (c .before .before .before .before), second (c .before .before .before .before), third (c .before .before .before .before), fourth (c .before .before .before .before))
 
 mul-result-2 : tie.Need-mul-result-2
-mul-result-2 c = omega (arith, third (c .before .before .before .before), fourth (c .before .before .before .before))
+mul-result-2 c = omega (arith, first (c .before .before .before .before), second (c .before .before .before .before), third (c .before .before .before .before), fourth (c .before .before .before .before))
 
 add-result-2 : tie.Need-add-result-2
-add-result-2 c = omega (arith, second (c .before .before .before .before), third (c .before .before .before .before), fourth (c .before .before .before .before))
+add-result-2 c = omega (arith, first (c .before .before .before .before), second (c .before .before .before .before), third (c .before .before .before .before), fourth (c .before .before .before .before))
 
 mul-result-3 : tie.Need-mul-result-3
-mul-result-3 c = omega (arith, second (c .before .before .before .before), third (c .before .before .before .before), fourth (c .before .before .before .before))
+mul-result-3 c = omega (arith, first (c .before .before .before .before), second (c .before .before .before .before), third (c .before .before .before .before), fourth (c .before .before .before .before))
 
 add-result-3 : tie.Need-add-result-3
 add-result-3 c = omega (arith, first (c .before .before .before .before), second (c .before .before .before .before), third (c .before .before .before .before), fourth (c .before .before .before .before))
