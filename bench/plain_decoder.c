@@ -96,13 +96,19 @@ static void read_children(const struct decoder *d, int layer, int r, int i, int 
 
 /* ---- the start: no bit is decided */
 
+/* A soft value as it is taken: full scale is -2,047. */
+static int taken(int y)
+{
+    return y == -2048 ? -2047 : y;
+}
+
 static void start_bottom(struct decoder *d, const int16_t *soft)
 {
     int quarter = d->n / 4;
     for (int i = 0; i < quarter; i++) {
         uint32_t cost[4][2];
         for (int k = 0; k < 4; k++) {
-            int y = soft[i + k * quarter];
+            int y = taken(soft[i + k * quarter]);
             cost[k][0] = (uint32_t)(y < 0 ? -y : 0);
             cost[k][1] = (uint32_t)(y > 0 ? y : 0);
         }
@@ -295,7 +301,7 @@ int plain_decode(int m, const uint8_t *map, int list_size, int stop, const int16
                         .even = bytes, .sum = bytes + n * l / 2, .odd = bytes + n * l,
                         .history = bytes + 3 * n * l / 2};
     for (int i = 0; i < n; i++)
-        magnitudes += abs(soft[i]);
+        magnitudes += abs(taken(soft[i]));
     start(&d, soft);
     for (int position = 0; position < stop; position++) {
         struct children children;

@@ -34,7 +34,7 @@ enum caldurrex_refusal {
     CALDURREX_BAD_LIST_SIZE = 4,      /* list size outside 1..32 */
     CALDURREX_BAD_STOP = 5,           /* stop position above n */
     CALDURREX_BAD_INPUT_LENGTH = 6,   /* payload not k long; word or soft values not n long */
-    CALDURREX_BAD_SOFT_VALUE = 7,     /* soft value outside -2047..2047 */
+    CALDURREX_BAD_SOFT_VALUE = 7,     /* soft value outside -2048..2047 */
     CALDURREX_SHORT_NUMBERS = 8,      /* number tables too short */
     CALDURREX_SHORT_BYTES = 9,        /* byte tables too short */
     CALDURREX_SHORT_OUTPUT = 10,      /* an output too short */
@@ -100,9 +100,10 @@ uint32_t caldurrex_extract(uint32_t m, const uint8_t *map, size_t map_len,
 /*
  * Decodes a block of soft values with a list of list_size prefixes.
  *
- * A soft value is a number from -2047 to 2047; a positive one favours bit 0. The
- * correlation of a word is the sum of the soft values, each negated where the word
- * has a 1. The score of a prefix is the largest correlation of a transform over all
+ * A soft value is a number from -2048 to 2047; a positive one favours bit 0. -2048
+ * is full scale and taken as -2047: a call with it gives what the call with -2047
+ * in its place gives. The correlation of a word is the sum of the soft values, each
+ * negated where the word has a 1. The score of a prefix is the largest correlation of a transform over all
  * inputs that begin with the prefix, whatever is frozen behind it. The list begins
  * as the empty prefix. Position by position, each prefix goes on with 0 where the
  * position is frozen and with both bits where it is not, and then the list_size
@@ -141,7 +142,7 @@ uint32_t caldurrex_extract(uint32_t m, const uint8_t *map, size_t map_len,
  *   4   CALDURREX_BAD_LIST_SIZE     list_size outside 1..32
  *   5   CALDURREX_BAD_STOP          stop above n
  *   6   CALDURREX_BAD_INPUT_LENGTH  soft_len is not n
- *   7   CALDURREX_BAD_SOFT_VALUE    a soft value outside -2047..2047
+ *   7   CALDURREX_BAD_SOFT_VALUE    a soft value outside -2048..2047
  *   8   CALDURREX_SHORT_NUMBERS     numbers_len is below 32*n*l
  *   9   CALDURREX_SHORT_BYTES       bytes_len is below (4*n + 256)*l
  *   10  CALDURREX_SHORT_OUTPUT      inputs_len or words_len is below l*n, or
@@ -177,18 +178,19 @@ struct caldurrex_job {
  *   2 bytes          stop position, 0 to n; only if bit 1 is 1, else it is n
  *   4 bytes          frame number, unsigned; only if bit 2 is 1, else it is 0
  *   ceil(n/8) bytes  the frozen map; for n = 4 its four high bits are 0
- *   2*n bytes        n soft values from -2047 to 2047, each a signed number of 16 bits
+ *   2*n bytes        n soft values from -2048 to 2047, each a signed number of 16 bits
  *
  * A field may be present with the value that it would have when absent.
  *
  *   record  the record, as long as its fields need
  *   map     at least ceil(n/8) bytes; the first of them become the frozen map, and all
  *           behind it up to map_len becomes 0
- *   soft    at least n numbers of 16 bits; the first n become the soft values, and all
- *           behind them up to soft_len becomes 0
+ *   soft    at least n numbers of 16 bits; the first n become the soft values, -2047
+ *           for -2048, and all behind them up to soft_len becomes 0
  *
  * The decoder takes the map and the soft values at their exact lengths, ceil(n/8)
- * and n. 128 bytes and 1024 numbers are enough for every record.
+ * and n. 128 bytes and 1024 numbers are enough for every record. What a record that
+ * was read says is accepted by caldurrex_decode wherever it is lent enough.
  *
  * The answer's refusal is 0, or the first of these that applies, in this order:
  *
@@ -200,7 +202,7 @@ struct caldurrex_job {
  *   3   CALDURREX_BAD_MAP_BIT        a map bit past n is set
  *   4   CALDURREX_BAD_LIST_SIZE      list size outside 1..32
  *   5   CALDURREX_BAD_STOP           stop position above n
- *   7   CALDURREX_BAD_SOFT_VALUE     a soft value outside -2047..2047
+ *   7   CALDURREX_BAD_SOFT_VALUE     a soft value outside -2048..2047
  *   10  CALDURREX_SHORT_OUTPUT       map_len is below ceil(n/8) or soft_len below n
  *
  * A refused call writes nowhere.

@@ -24,6 +24,12 @@ static void need(int ok, const char *what, size_t n, size_t len)
     }
 }
 
+/* A soft value held within +-2,047. */
+static int16_t held(int16_t soft)
+{
+    return (int16_t)(soft > 2047 ? 2047 : soft < -2047 ? -2047 : soft);
+}
+
 /* Soft values up to the magnitude most, small ones often so that scores tie. */
 static void draw_soft(int16_t *soft, size_t n)
 {
@@ -172,13 +178,17 @@ static void check_list(uint32_t m)
     static uint8_t bytes[(4 * 16 + 256) * PAPER_MAX_LIST];
     uint8_t inputs[16 * PAPER_MAX_LIST], words[16 * PAPER_MAX_LIST], map[2] = {0}, u[16] = {0}, word[16];
     int32_t scores[PAPER_MAX_LIST];
-    int16_t soft[16];
+    int16_t soft[16], taken[16];
     struct entry list[PAPER_MAX_LIST];
     size_t n = (size_t)1 << m, l = 1 + draw_below(PAPER_MAX_LIST), stop = draw_below(n + 1), share = draw_below(9);
     draw_soft(soft, n);
-    for (size_t i = 0; i < n; i++)
+    for (size_t i = 0; i < n; i++) {
         map[i / 8] |= (uint8_t)((draw_below(8) < share) << (i % 8));
-    size_t count = enumerated_list(n, map, l, stop, soft, list);
+        if (draw_below(8) == 0)
+            soft[i] = -2048;
+        taken[i] = held(soft[i]);
+    }
+    size_t count = enumerated_list(n, map, l, stop, taken, list);
     int32_t rows = paper_decode(m, map, (n + 7) / 8, (uint32_t)l, (uint32_t)stop, soft, n,
                                 numbers, 32 * n * l, bytes, (4 * n + 256) * l,
                                 inputs, n * l, words, n * l, scores, l);

@@ -92,7 +92,8 @@ static void try_lengths(uint32_t m)
     }
 }
 
-/* A soft value out of range at every position, the last ones in range at some. */
+/* A soft value out of range at every position; at some the values on both sides of the
+ * limits, and the ends of 16 bits. */
 static void try_soft_values(uint32_t m)
 {
     struct decoder_call c;
@@ -103,9 +104,12 @@ static void try_soft_values(uint32_t m)
         check_as(&c, m, 7);
         if (n > 32 && i != 0 && i != n - 1 && draw_below(n) >= 4)
             continue;
-        quick_call(&c, m);
-        c.soft[i] = draw_below(2) ? 2047 : -2047;
-        check_as(&c, m, 0);
+        for (size_t which = 0; which < 7; which++) {
+            static const int16_t values[7] = {-2048, -2047, 2047, -2049, 2048, -32768, 32767};
+            quick_call(&c, m);
+            c.soft[i] = values[which];
+            check_as(&c, m, which < 3 ? 0 : 7);
+        }
     }
 }
 

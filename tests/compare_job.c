@@ -29,7 +29,10 @@ static const struct example {
     {"\x00\x02\x10\0\0\0\0\0\0\0\0", 11, 3},
     {"\x01\x02\x00\x00\0\0\0\0\0\0\0\0", 12, 4},
     {"\x02\x02\x05\x00\x00\0\0\0\0\0\0\0\0", 13, 5},
-    {"\x00\x02\x00\x00\xf8\0\0\0\0\0\0", 11, 7},
+    {"\x00\x02\x00\xff\xf7\0\0\0\0\0\0", 11, 7},
+    {"\x00\x02\x00\x00\x08\0\0\0\0\0\0", 11, 7},
+    {"\x00\x02\x00\x00\x80\0\0\0\0\0\0", 11, 7},
+    {"\x00\x02\x00\xff\x7f\0\0\0\0\0\0", 11, 7},
 };
 
 static void run_examples(void)
@@ -39,6 +42,10 @@ static void run_examples(void)
     memcpy(r.bytes, "\x01\x02\x02\x03\x05\x00\xfd\xff\x02\x00\x07\x00", 12);
     job_check(&r, 1, 4);
     job_check(&r, 3, 9);
+    static const int16_t ends[4] = {-2048, 2047, -2047, 7};
+    memcpy(r.soft, ends, sizeof ends);
+    memcpy(r.bytes, "\x01\x02\x02\x03\x00\xf8\xff\x07\x01\xf8\x07\x00", 12);
+    job_check(&r, 1, 4);
     for (size_t i = 0; i < sizeof examples / sizeof examples[0]; i++) {
         memcpy(r.bytes, examples[i].bytes, examples[i].len);
         r.len = examples[i].len;
@@ -136,7 +143,7 @@ static void try_soft_values(uint32_t m)
             job_good(&r, m, (unsigned)draw_below(JOB_FIELD_SETS), 0);
             r.soft[i] = values[which];
             job_pack(&r);
-            run_as(&r, values[which] < -2047 || values[which] > 2047 ? 7 : 0);
+            run_as(&r, values[which] < -2048 || values[which] > 2047 ? 7 : 0);
         }
     }
 }

@@ -115,6 +115,9 @@ static void run_examples(void)
     run_text("\x07\x02\x02\x00\x00\x00\x00\x00\x80\x03\x05\x00\xfd\xff\x02\x00\x07\x00", 18,
              "frame 2147483648 rows 1\n0 17 0000 0000\n");
     run_text("\x00\x02\x0f\x01\xf8\x01\xf8\x01\xf8\x01\xf8", 11, "frame 0 rows 1\n0 -8188 0000 0000\n");
+    run_text("\x00\x02\x0f\x00\xf8\x00\xf8\x00\xf8\x00\xf8", 11, "frame 0 rows 1\n0 -8188 0000 0000\n");
+    run_text("\x00\x02\x0f\xff\x07\xff\x07\xff\x07\xff\x07", 11, "frame 0 rows 1\n0 8188 0000 0000\n");
+    run_text("\x00\x02\x0f\x00\x00\xff\xf7\x00\x00\x00\x00", 11, "refused 7\n");
     run_text("", 0, "refused 13\n");
     run_text("\x00", 1, "refused 13\n");
     run_text("\x08", 1, "refused 14\n");
@@ -125,6 +128,24 @@ static void run_examples(void)
         run_long(limit[past], 0x00, 2, "refused 13\n");
     }
     run_long(JOB_ROOM, 0x08, 0, "refused 13\n");
+}
+
+/* ---- soft values on both sides of the limits, and the ends of 16 bits, in every size that is served */
+
+static void run_soft_values(void)
+{
+    static const int16_t values[6] = {-2048, 2047, -2049, 2048, -32768, 32767};
+    struct job_record r;
+    for (uint32_t m = JOB_MIN_M; m <= SERVED_M; m++) {
+        size_t n = (size_t)1 << m, places[3] = {0, n - 1, draw_below(n)};
+        for (size_t which = 0; which < 18; which++) {
+            job_good(&r, m, 0, 0);
+            r.soft[places[which % 3]] = values[which / 3];
+            r.refusal = which / 3 < 2 ? 0 : 7;
+            job_pack(&r);
+            check(&r);
+        }
+    }
 }
 
 /* ---- every size on both sides of what the program serves, every set of faults */
@@ -211,6 +232,7 @@ int main(int argc, char **argv)
     printf("compare_program: %s, seed %lu, records %lu\n", program, seed, records);
     draw_seed(seed);
     run_examples();
+    run_soft_values();
     run_limits();
     run_records(records);
     if (!report()) {

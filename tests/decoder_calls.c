@@ -75,10 +75,14 @@ static void make_noisy(struct decoder_call *c)
 
 static void make_soft(struct decoder_call *c, enum soft_kind kind)
 {
-    static const int most[SOFT_KINDS] = {0, 1, 2, 20, 2047, 2047, 60};
+    static const int most[SOFT_KINDS] = {0, 1, 2, 20, 2047, 0, 60};
+    static const int16_t ends[3] = {2047, -2047, -2048};
     c->soft_len = size_of(c);
-    for (size_t i = 0; i < SOFT_ROOM; i++)
-        c->soft[i] = (int16_t)(kind == SOFT_ENDS ? (draw_below(2) ? 2047 : -2047) : draw_soft(most[kind]));
+    for (size_t i = 0; i < SOFT_ROOM; i++) {
+        c->soft[i] = kind == SOFT_ENDS ? ends[draw_below(3)] : draw_soft(most[kind]);
+        if (kind == SOFT_WIDE && draw_below(64) == 0)
+            c->soft[i] = -2048;
+    }
     if (kind == SOFT_NOISY)
         make_noisy(c);
 }
@@ -141,7 +145,7 @@ uint32_t decoder_bad_stop(const struct decoder_call *c, size_t which)
 int16_t decoder_bad_soft(size_t which)
 {
     int16_t far = (int16_t)(2048 + draw_below(30720));
-    const int16_t all[BAD_SOFTS] = {-2048, 2048, -2049, -32768, 32767, far, (int16_t)-far};
+    const int16_t all[BAD_SOFTS] = {2048, -2049, -32768, 32767, far, (int16_t)(-far - 1)};
     return all[which];
 }
 

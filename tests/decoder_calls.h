@@ -18,8 +18,9 @@ enum { MAP_ROOM = 512, SOFT_ROOM = 4 * DECODER_MAX_N };
  * place, all from some place on, the half of lowest weight, all but a few. */
 enum code_kind { CODE_OPEN, CODE_SHUT, CODE_MIXED, CODE_FRONT, CODE_BACK, CODE_POLAR, CODE_FEW_CLEAR, CODE_KINDS };
 
-/* Soft values: all 0; of magnitude 0 and 1; 0 to 2; 0 to 20; 0 to 2047; 2047 alone;
- * noise round a word of the code. With the first three scores tie often. */
+/* Soft values: all 0; of magnitude 0 and 1; 0 to 2; 0 to 20; -2048 to 2047; the ends
+ * -2048, -2047 and 2047 alone; noise round a word of the code. With the first three
+ * scores tie often. */
 enum soft_kind { SOFT_ZERO, SOFT_UNITS, SOFT_TIES, SOFT_SMALL, SOFT_WIDE, SOFT_ENDS, SOFT_NOISY, SOFT_KINDS };
 
 struct decoder_call {
@@ -48,6 +49,6 @@ void decoder_call_spoil(struct decoder_call *c, unsigned faults);
 uint32_t decoder_bad_list_size(const struct decoder_call *c, size_t which);
 uint32_t decoder_bad_stop(const struct decoder_call *c, size_t which);
 int16_t decoder_bad_soft(size_t which);
-enum { BAD_LIST_SIZES = 10, BAD_STOPS = 9, BAD_SOFTS = 7 };
+enum { BAD_LIST_SIZES = 10, BAD_STOPS = 9, BAD_SOFTS = 6 };
 
 #endif

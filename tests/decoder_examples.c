@@ -36,6 +36,9 @@ static const struct example {
     {0x00, 32, 0, {5, -3, 2, 7}, 1, {{17, "0000", "0000"}}},
     /* k = 0. */
     {0x0f, 4, 4, {5, -3, 2, 7}, 1, {{11, "0000", "0000"}}},
+    /* -2,048 is taken as -2,047, which ties with 2,047 against it. */
+    {0x00, 1, 4, {-2048, -2048, -2048, -2048}, 1, {{8188, "0001", "1111"}}},
+    {0x0e, 2, 4, {-2048, 2047, 5, 0}, 2, {{4099, "1000", "1000"}, {5, "0000", "0000"}}},
 };
 
 static int row_is(const struct decoder_outputs *out, size_t r, int32_t score, const char *input, const char *word)
@@ -82,7 +85,12 @@ static const struct refused_example {
     {2, 1, 0x00, 33, 4, 4, 0, 4224, 8976, 132, 33, 4},
     {2, 1, 0x00, 1, 5, 4, 0, 128, 272, 4, 1, 5},
     {2, 1, 0x00, 1, 4, 3, 0, 128, 272, 4, 1, 6},
-    {2, 1, 0x00, 1, 4, 4, -2048, 128, 272, 4, 1, 7},
+    {2, 1, 0x00, 1, 4, 4, -2048, 128, 272, 4, 1, 0},
+    {2, 1, 0x00, 1, 4, 4, 2047, 128, 272, 4, 1, 0},
+    {2, 1, 0x00, 1, 4, 4, -2049, 128, 272, 4, 1, 7},
+    {2, 1, 0x00, 1, 4, 4, 2048, 128, 272, 4, 1, 7},
+    {2, 1, 0x00, 1, 4, 4, -32768, 128, 272, 4, 1, 7},
+    {2, 1, 0x00, 1, 4, 4, 32767, 128, 272, 4, 1, 7},
     {2, 1, 0x00, 1, 4, 4, 0, 127, 272, 4, 1, 8},
     {2, 1, 0x00, 1, 4, 4, 0, 128, 271, 4, 1, 9},
     {2, 1, 0x00, 1, 4, 4, 0, 128, 272, 3, 1, 10},
@@ -124,13 +132,15 @@ static void check_largest(void)
  * word of zeros or for it. */
 static void check_ends(uint32_t m)
 {
-    for (int32_t end = -2047; end <= 2047; end += 2 * 2047) {
+    static const int16_t ends[3] = {-2048, -2047, 2047};
+    for (size_t end = 0; end < 3; end++) {
         struct decoder_call c;
         decoder_call_good(&c, m, CODE_SHUT, SOFT_ZERO, 1, (uint32_t)1 << m);
         for (size_t i = 0; i < c.soft_len; i++)
-            c.soft[i] = (int16_t)end;
+            c.soft[i] = ends[end];
         decoder_check(&c, m);
-        if (decoder_check_outputs().scores[0] != end * (int32_t)c.soft_len)
+        int32_t n = (int32_t)c.soft_len;
+        if (decoder_check_outputs().scores[0] != (ends[end] < 0 ? -2047 * n : 2047 * n))
             decoder_check_fail(&c, "a score at the end of its range differs");
     }
 }

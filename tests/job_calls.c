@@ -71,15 +71,15 @@ static void draw_code(struct job_record *r)
 }
 
 /* Magnitudes up to some limit, down to where scores tie often; or nothing but the
- * two ends, or one end alone. */
+ * ends, or one end alone. */
 static void draw_soft(struct job_record *r)
 {
-    static const int limits[6] = {0, 1, 2, 20, 300, 2047};
+    static const int limits[6] = {0, 1, 2, 20, 300, 2047}, ends[3] = {2047, -2047, -2048};
     size_t kind = draw_below(9);
     int most = limits[kind < 6 ? kind : 5];
     for (size_t i = 0; i < (size_t)1 << r->m; i++) {
-        int drawn = (int)draw_below((size_t)(2 * most + 1)) - most, end = draw_below(2) ? 2047 : -2047;
-        r->soft[i] = (int16_t)(kind < 6 ? drawn : kind == 6 ? end : kind == 7 ? 2047 : -2047);
+        int drawn = (int)draw_below((size_t)(2 * most + 1)) - most, end = ends[draw_below(3)];
+        r->soft[i] = (int16_t)(kind < 6 ? drawn : kind == 6 ? end : kind == 7 ? 2047 : -2048);
     }
 }
 
@@ -130,11 +130,11 @@ static uint32_t bad_stop(uint32_t n)
 static void spoil_softs(struct job_record *r)
 {
     int16_t far = (int16_t)(2048 + draw_below(30720));
-    const int16_t values[7] = {-2048, 2048, -2049, -32768, 32767, far, (int16_t)-far};
+    const int16_t values[6] = {2048, -2049, -32768, 32767, far, (int16_t)(-far - 1)};
     size_t n = (size_t)1 << r->m, places[3] = {0, n - 1, draw_below(n)};
     size_t at = places[draw_below(3)];
     for (size_t times = draw_below(2) ? 1 : 1 + draw_below(8); times > 0; times--) {
-        r->soft[at] = values[draw_below(7)];
+        r->soft[at] = values[draw_below(6)];
         at = draw_below(n);
     }
 }

@@ -34,13 +34,15 @@ static const struct record examples[] = {
     {13, {0x02, 2, 0, 0, 0x03, SOFT}},                      /* stop position 0: one row of zeros */
     {15, {0x04, 2, 0xff, 0xff, 0xff, 0xff, 0x03, SOFT}},    /* the largest frame number */
     {18, {0x07, 2, 4, 4, 0, 0, 0, 0, 0, 0x03, SOFT}},       /* fields with the values that absence means */
+    {11, {0x00, 2, 0x03, 5, 0, 0x00, 0xf8, 0xff, 0x07, 7, 0}}, /* -2,048, taken as -2,047, and 2,047 */
     {7, {0x00, 1}},                                         /* 1: m = 1 */
     {MAX_RECORD, {0x00, 11}},                               /* 1: m = 11, as long as it asks for */
     {11, {0x00, 2, 0x10, SOFT}},                            /* 3: map 10 hex */
     {12, {0x01, 2, 0, 0x03, SOFT}},                         /* 4: l = 0 */
     {12, {0x01, 2, 33, 0x03, SOFT}},                        /* 4: l = 33 */
     {13, {0x02, 2, 5, 0, 0x03, SOFT}},                      /* 5: p = 5 */
-    {11, {0x00, 2, 0x03, 5, 0, 0x00, 0xf8, 2, 0, 7, 0}},    /* 7: a soft value of -2,048 */
+    {11, {0x00, 2, 0x03, 5, 0, 0xff, 0xf7, 2, 0, 7, 0}},    /* 7: a soft value of -2,049 */
+    {11, {0x00, 2, 0x03, 5, 0, 0x00, 0x08, 2, 0, 7, 0}},    /* 7: 2,048 */
     {0, {0}},                                               /* 13: empty */
     {1, {0x00}},                                            /* 13: one byte */
     {10, {0x00, 2, 0x03, SOFT}},                            /* 13: a byte too few */
@@ -48,9 +50,9 @@ static const struct record examples[] = {
     {11, {0x08, 2, 0x03, SOFT}},                            /* 14: first byte 08 hex */
     {1, {0x08}},                                            /* 14 before 13 for one byte */
     {3, {0x00, 11, 0x10}},                                  /* 1 before 13 and 3 */
-    {14, {0x03, 2, 0, 5, 0, 0x10, 5, 0, 0x00, 0xf8, 2, 0, 7, 0}}, /* 3 before 4, 5 and 7 */
-    {14, {0x03, 2, 0, 5, 0, 0x03, 5, 0, 0x00, 0xf8, 2, 0, 7, 0}}, /* 4 before 5 and 7 */
-    {14, {0x03, 2, 1, 5, 0, 0x03, 5, 0, 0x00, 0xf8, 2, 0, 7, 0}}, /* 5 before 7 */
+    {14, {0x03, 2, 0, 5, 0, 0x10, 5, 0, 0xff, 0xf7, 2, 0, 7, 0}}, /* 3 before 4, 5 and 7 */
+    {14, {0x03, 2, 0, 5, 0, 0x03, 5, 0, 0xff, 0xf7, 2, 0, 7, 0}}, /* 4 before 5 and 7 */
+    {14, {0x03, 2, 1, 5, 0, 0x03, 5, 0, 0xff, 0xf7, 2, 0, 7, 0}}, /* 5 before 7 */
 };
 
 enum { EXAMPLES = sizeof examples / sizeof examples[0] };
@@ -165,7 +167,7 @@ static int soft_value(enum soft soft, int bit, int x)
     case SPARSE: return x % 4 == 0 ? within(2, x / 4) : 0;
     case SMALL: return within(20, x);
     case WIDE: return within(2047, x);
-    case ENDS: return x % 2 ? 2047 : -2047;
+    case ENDS: return x % 2 ? 2047 : x % 4 ? -2047 : -2048;
     case NOISY: return (bit ? -20 : 20) + within(40, x);
     }
     abort();

@@ -11,6 +11,18 @@ static int32_t larger(int32_t x, int32_t y)
     return x > y ? x : y;
 }
 
+/* ---- soft values */
+
+int paper_out_of_range(int16_t soft)
+{
+    return soft < -2048 || soft > 2047;
+}
+
+int16_t paper_taken(int16_t soft)
+{
+    return soft == -2048 ? -2047 : soft;
+}
+
 /*
  * ---- scores
  *
@@ -221,7 +233,7 @@ static uint32_t decoder_refusal(uint32_t m, const uint8_t *map, size_t map_len, 
     if (soft_len != (size_t)1 << m)
         return 6;
     for (size_t i = 0; i < soft_len; i++)
-        if (soft[i] < -2047 || soft[i] > 2047)
+        if (paper_out_of_range(soft[i]))
             return 7;
     return 0;
 }
@@ -245,7 +257,10 @@ int32_t paper_decode(uint32_t m, const uint8_t *map, size_t map_len,
         return -9;
     if (inputs_len < l * n || words_len < l * n || scores_len < l)
         return -10;
-    const struct list *rows = live_after(n, soft, map, l, stop);
+    int16_t taken[MAX_N];
+    for (size_t i = 0; i < n; i++)
+        taken[i] = paper_taken(soft[i]);
+    const struct list *rows = live_after(n, taken, map, l, stop);
     memset(numbers, 0, numbers_len * sizeof numbers[0]);
     memset(bytes, 0, bytes_len);
     memset(inputs, 0, inputs_len);

@@ -12,6 +12,12 @@
 
 enum { PAPER_MAX_LIST = 32 };
 
+/* A soft value is refused below -2,048 and above 2,047. */
+int paper_out_of_range(int16_t soft);
+
+/* A soft value as it is taken: full scale is -2,047. */
+int16_t paper_taken(int16_t soft);
+
 /* The correlation of a word of n bits with n soft values. */
 int32_t paper_correlation(size_t n, const int16_t *soft, const uint8_t *word);
 

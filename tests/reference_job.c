@@ -76,7 +76,7 @@ static uint32_t value_refusal(const struct parts *p)
     if (p->job.stop > p->n)
         return 5;
     for (size_t i = 0; i < p->n; i++)
-        if (p->soft[i] < -2047 || p->soft[i] > 2047)
+        if (paper_out_of_range(p->soft[i]))
             return 7;
     return 0;
 }
@@ -98,7 +98,8 @@ struct reference_job reference_read_job(const uint8_t *record, size_t len,
     memset(map, 0, map_len);
     memset(soft, 0, soft_len * sizeof soft[0]);
     memcpy(map, p.map, p.map_len);
-    memcpy(soft, p.soft, p.n * sizeof soft[0]);
+    for (size_t i = 0; i < p.n; i++)
+        soft[i] = paper_taken(p.soft[i]);
     return p.job;
 }
 

@@ -10,6 +10,7 @@ use lib.Dec.{ltb}
 use lib.ListN.{take, replicate, length-replicate}
 use lib.IntN.{ℤ, pos}
 use Rattle.spec.specs.Code.{Code, code, size, mapBytes, codeTransform}
+use Rattle.spec.specs.Score.{taken}
 use Rattle.spec.specs.Decoder.{rows}
 use Rattle.spec.specs.Faults.{Fault, fault, first, settled}
 use Rattle.spec.specs.Refusals.{Room, room, decodeFaults}
@@ -29,7 +30,7 @@ blockRoom = room 8192 2048 256 256 4
 
 -- a decoder call with that room
 unfoldable pub decodedText : Code → ℕ → ℕ → ℕ → List ℤ → List ℕ
-decodedText c l p frame y = settled (decodeRefusal c l p y blockRoom) refusedText (textOf frame (rows (codeTransform c) c y l p))
+decodedText c l p frame y = settled (decodeRefusal c l p y blockRoom) refusedText (textOf frame (rows (codeTransform c) c (taken y) l p))
 
 -- the same behind the tests of n and l, with a map and soft values that stand at the front of slices
 unfoldable pub blockText : ℕ → ℕ → ℕ → ℕ → List ℕ → List ℤ → List ℕ
@@ -86,7 +87,7 @@ module _ (c : Code) (l p frame : ℕ) (y : List ℤ) where
   text o = answerText frame (size c) (o .answer) (o .left .inputs) (o .left .words) (o .left .scores)
 
   abbrev paperText : ℕ → List ℕ
-  paperText k = settled k refusedText (textOf frame (rows (codeTransform c) c y l p))
+  paperText k = settled k refusedText (textOf frame (rows (codeTransform c) c (taken y) l p))
 
   no-fault : 0 ≡ decodeRefusal c l p y (roomOf blockLent) → First (decodeFaults c l p y (roomOf blockLent)) 0
   unfolding decodeRefusal
@@ -98,7 +99,7 @@ module _ (c : Code) (l p frame : ℕ) (y : List ℤ) where
       ap text q ∙ by-number (decodeRefusal c l p y (roomOf blockLent)) refl ∙ ap (λ (r : Room). paperText (decodeRefusal c l p y r)) room-is
     where
       by-number : (k : ℕ) → k ≡ decodeRefusal c l p y (roomOf blockLent) → text (outcome k) ≡ paperText k
-      by-number zero e = output-of-served c y l p (stop-in-range c l p y (roomOf blockLent) (no-fault e)) frame (roomOf blockLent)
+      by-number zero e = output-of-served c (taken y) l p (stop-in-range c l p y (roomOf blockLent) (no-fault e)) frame (roomOf blockLent)
       by-number (suc k) e = refl
 
   pub answer-rows : (o : Decoding) → o ≡ decodeOutcome c l p y blockLent → rowsAnswered (o .answer) ≤ l

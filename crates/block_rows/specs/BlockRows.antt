@@ -1,12 +1,9 @@
 -- What the calls that write the rows of a decoded block take and leave.
 use mathlib.Core.Path.{_≡_}
-use mathlib.Core.Bool.{false}
 use mathlib.Core.List.{List}
 use Prim.Native.Nat.{ℕ, _+_, _*_, _<_, _≤_, _^_}
 use lib.ListN.{length, drop, getD}
 use lib.IntN.{ℤ}
-use Rattle.spec.specs.Faults.{some}
-use Rattle.spec.specs.Refusals.{tooLarge}
 use Rattle.laws.specs.Cost.{magnitude}
 use Rattle.live.specs.declared.Live.{Live}
 use Rattle.live.specs.Entries.{costOf}
@@ -37,16 +34,16 @@ pub record CostsRead (count : ℕ) (code costs : List ℕ) : Type 0 where
   pub long : length costs ≡ 32
   pub are : (r : ℕ) → r < count → getD costs r 0 ≡ costOf (getD code r 0)
 
--- no cost of the entries is above the sum of the magnitudes
-pub record CostsFit (room : ℕ) (soft : List ℤ) (s : Live) : Type 0 where
-  pub short : length soft ≤ 1024
-  pub range : some tooLarge soft ≡ false
+-- y are the soft values as they are taken; no cost of the entries is above the sum of their magnitudes
+pub record CostsFit (room : ℕ) (y : List ℤ) (s : Live) : Type 0 where
+  pub short : length y ≤ 1024
+  pub range : magnitude y ≤ 2047 * length y
   pub few : s .count ≤ 32
   pub places : s .count ≤ room
-  pub below : (r : ℕ) → r < s .count → costOf (getD (s .code) r 0) ≤ magnitude soft
+  pub below : (r : ℕ) → r < s .count → costOf (getD (s .code) r 0) ≤ magnitude y
 
 -- the scores of the entries of s
-pub record CostsWritten (room : ℕ) (soft : List ℤ) (s : Live) (scores : List ℤ) : Type 0 where
+pub record CostsWritten (room : ℕ) (y : List ℤ) (s : Live) (scores : List ℤ) : Type 0 where
   pub costs : List ℕ
   pub read : CostsRead (s .count) (s .code) costs
-  pub scores-left : ScoresWritten (magnitude soft) (s .count) room costs scores
+  pub scores-left : ScoresWritten (magnitude y) (s .count) room costs scores

@@ -7,6 +7,7 @@ use native.Mathlib.Omega.{arith}
 use lib.ListN.{length}
 use lib.IntN.{ℤ, pos, negℤ}
 use Rattle.spec.specs.Code.{Code, codeTransform}
+use Rattle.spec.specs.Score.{taken}
 use Rattle.spec.specs.Decoder.{rows}
 use Rattle.spec.specs.Faults.{Fault, fault, first, settled}
 use Rattle.spec.specs.Refusals.{Room, decodeFaults}
@@ -54,7 +55,7 @@ refusal-small c l p soft r =
     (next (omega arith) (next (omega arith) (next (omega arith) (next (omega arith) (next (omega arith) (next (omega arith) end))))))))))))
 
 -- a served call has at most l rows, and l is at most 32
-rows-small : (c : Code) (l p : ℕ) (soft : List ℤ) (r : Room) → First (decodeFaults c l p soft r) 0 → length (rows (codeTransform c) c soft l p) ≤ 32
+rows-small : (c : Code) (l p : ℕ) (soft : List ℤ) (r : Room) → First (decodeFaults c l p soft r) 0 → length (rows (codeTransform c) c (taken soft) l p) ≤ 32
 rows-small c l p soft r f = omega (arith, rows-at-most c l p soft r f, list-in-range c l p soft r f .1)
 
 pub small : (c : Code) (l p : ℕ) (soft : List ℤ) (x : Lent) → SmallAnswer (decodeOutcome c l p soft x .answer)
@@ -62,7 +63,7 @@ unfolding decodeOutcome decodeServed decodeRefusal
 small c l p soft x = by-number (decodeRefusal c l p soft (roomOf x)) refl
   where
     by-number : (k : ℕ) → first (decodeFaults c l p soft (roomOf x)) ≡ k
-        → SmallAnswer (settled k (λ j. decoding (refusedBy j) x) (decodedRows (roomOf x) (rows (codeTransform c) c soft l p)) .answer)
+        → SmallAnswer (settled k (λ j. decoding (refusedBy j) x) (decodedRows (roomOf x) (rows (codeTransform c) c (taken soft) l p)) .answer)
     by-number zero e = few-rows (rows-small c l p soft (roomOf x) (of-first (decodeFaults c l p soft (roomOf x)) 0 (sym e)))
     by-number (suc k) e = low-number (subst (λ (j : ℕ). j ≤ 14) e (refusal-small c l p soft (roomOf x)))
 

@@ -4,6 +4,7 @@ use Prim.Native.Nat.{ℕ}
 use lib.Dec.{ltb}
 use lib.ListN.{length}
 use Rattle.spec.specs.Code.{Code, code, codeTransform}
+use Rattle.spec.specs.Score.{taken}
 use Rattle.spec.specs.Decoder.{Row, rows}
 use Rattle.spec.specs.Faults.{Fault, fault, first, settled}
 use Rattle.spec.specs.Record.{exponent, positions, listSize, stopPosition, frameNumber, recordMap, recordSoft, shapeFaults, fieldFaults}
@@ -19,12 +20,12 @@ recordFaults s = (shapeFaults s ++ fieldFaults s 128 1024) ++ limitFaults (posit
 abbrev pub programFaults : List ℕ → List Fault
 programFaults s = fault 13 (ltb 4096 (length s)) ∷ recordFaults s
 
--- the rows of the paper decoder for a record
+-- the rows of the paper decoder for a record, which sees its soft values as they are taken
 abbrev pub recordCode : List ℕ → Code
 recordCode s = code (exponent s) (recordMap s)
 
 abbrev pub recordRows : List ℕ → List Row
-recordRows s = rows (codeTransform (recordCode s)) (recordCode s) (recordSoft s) (listSize s) (stopPosition s)
+recordRows s = rows (codeTransform (recordCode s)) (recordCode s) (taken (recordSoft s)) (listSize s) (stopPosition s)
 
 -- a refusal, or a line for the frame and one for each row
 unfoldable pub programOutput : List ℕ → List ℕ

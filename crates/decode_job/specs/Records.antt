@@ -1,20 +1,21 @@
 -- What is written for a record, by what the reader makes of it.
 use mathlib.Core.Path.{_≡_, refl, sym, ap, ap₂, _∙_}
 use mathlib.Core.List.{List, _++_}
-use Prim.Native.Nat.{ℕ, zero, suc, _+_, _-_, _*_, _≤_, _<_}
+use Prim.Native.Nat.{ℕ, zero, suc, _+_, _*_, _≤_, _<_}
 use native.Mathlib.Omega.{arith}
 use borrow.Author.Tests.{lt-ltb, le-ltb, ltb-false}
-use lib.ListN.{length, drop, replicate, length-drop}
-use lib.Seq.{length-take-le, take-at}
+use lib.ListN.{length}
 use lib.IntN.{ℤ, pos}
-use Rattle.spec.specs.Code.{mapBytes}
+use Rattle.spec.specs.Code.{codeTransform}
+use Rattle.spec.specs.Score.{taken}
+use Rattle.spec.specs.Decoder.{rows}
 use Rattle.spec.specs.Faults.{first, settled}
-use Rattle.spec.specs.Record.{positions, exponent, listSize, stopPosition, frameNumber, recordMap, recordSoft, fields, mapAt, softAt, shapeFaults, fieldFaults}
-use Rattle.spec.specs.Refusals.{decodeFaults}
+use Rattle.spec.specs.Record.{positions, exponent, listSize, stopPosition, frameNumber, recordMap, recordSoft, shapeFaults, fieldFaults}
+use Rattle.spec.specs.Refusals.{tableFaults}
 use Rattle.spec.specs.Outcome.{job, refusedJob, Job, Reading, reading, padded, readRefusal, readServed, readOutcome, decodeRefusal}
-use Rattle.laws.specs.FirstFault.{First, none, later, of-first, is-first, first-before, first-after, Numbered, end, next, settled-refused, settled-served, same}
-use Rattle.job.specs.SoftValues.{length-soft}
-use Rattle.job.specs.Calls.{accepted-record}
+use Rattle.laws.specs.FirstFault.{First, none, later, of-first, is-first, first-before, first-after, Numbered, end, next, settled-refused, settled-served}
+use Rattle.laws.specs.Taken.{taken-twice}
+use Rattle.job.specs.HandedOut.{map-at-front, soft-at-front, block-refusal}
 use Rattle.row_text.specs.Output.{refusedText}
 use Rattle.row_text.specs.RowsText.{textOf}
 use Rattle.decode_job.specs.ProgramOutput.{recordFaults, recordCode, recordRows, programOutput}
@@ -44,37 +45,26 @@ module _ (s : List ℕ) where
   reader-numbers : Numbered (shapeFaults s ++ fieldFaults s 128 1024)
   reader-numbers = next (next (next (next (next (next (next (next (next (next (next end))))))))))
 
-  map-long : 0 ≡ reader → length (recordMap s) ≡ mapBytes (positions s)
-  map-long e =
-      let w = accepted-record s 128 1024 e .0 .whole in
-      length-take-le (mapBytes (positions s)) (drop (mapAt (fields s)) s) (omega (arith, length-drop (mapAt (fields s)) s))
+  -- the block that the reader hands out
+  abbrev handed : List ℤ
+  handed = taken (recordSoft s)
 
-  -- a good record that the program's tables can hold is not refused by the decoder
+  -- if the program's tables can hold it, the decoder does not refuse it
   decoder-accepts : 0 ≡ reader → 0 ≡ first (limitFaults (positions s) (listSize s))
-      → 0 ≡ decodeRefusal (recordCode s) (listSize s) (stopPosition s) (recordSoft s) blockRoom
-  unfolding readRefusal decodeRefusal
-  decoder-accepts e g =
-      go (of-first (shapeFaults s ++ fieldFaults s 128 1024) 0 e) (of-first (limitFaults (positions s) (listSize s)) 0 g)
+      → 0 ≡ decodeRefusal (recordCode s) (listSize s) (stopPosition s) handed blockRoom
+  decoder-accepts e g = within (of-first (limitFaults (positions s) (listSize s)) 0 g) ∙ block-refusal s 128 1024 e blockRoom
     where
-      go : First (shapeFaults s ++ fieldFaults s 128 1024) 0 → First (limitFaults (positions s) (listSize s)) 0
-          → 0 ≡ first (decodeFaults (recordCode s) (listSize s) (stopPosition s) (recordSoft s) blockRoom)
-      go (later _ (later _ (later _ (later m (later _ (later map (later l (later p (later y f))))))))) (later n (later k none)) =
+      within : First (limitFaults (positions s) (listSize s)) 0 → 0 ≡ first (tableFaults (positions s) (listSize s) blockRoom)
+      within (later n (later k none)) =
           let few = ltb-false 4 (listSize s) k in
           let fit = tables-fit (positions s) (listSize s) (ltb-false 64 (positions s) n) few in
-          is-first (decodeFaults (recordCode s) (listSize s) (stopPosition s) (recordSoft s) blockRoom) 0
-          (later m
-          (later (same (length (recordMap s)) (mapBytes (positions s)) (map-long e))
-          (later map
-          (later l
-          (later p
-          (later (same (length (recordSoft s)) (positions s) (length-soft s (softAt s) (positions s)))
-          (later y
+          is-first (tableFaults (positions s) (listSize s) blockRoom) 0
           (later (le-ltb 8192 (32 * (positions s * listSize s)) (fit .0))
           (later (le-ltb 2048 ((4 * positions s + 256) * listSize s) (fit .1))
           (later (le-ltb 256 (positions s * listSize s) (fit .2))
           (later (le-ltb 256 (positions s * listSize s) (fit .2))
           (later (le-ltb 4 (listSize s) few)
-          none))))))))))))
+          none)))))
 
   -- a record that is good so far: its output is decided by the program's tables
   tables-decide : 0 ≡ reader → first (limitFaults (positions s) (listSize s)) ≡ first (recordFaults s)
@@ -83,31 +73,27 @@ module _ (s : List ℕ) where
       first-after (shapeFaults s ++ fieldFaults s 128 1024) (limitFaults (positions s) (listSize s)) 0 e reader-numbers refl (first (limitFaults (positions s) (listSize s))) refl
 
   good-record : 0 ≡ reader
-      → settled (first (limitFaults (positions s) (listSize s))) refusedText (decodedText (recordCode s) (listSize s) (stopPosition s) (frameNumber s) (recordSoft s)) ≡ recordOutput s
+      → settled (first (limitFaults (positions s) (listSize s))) refusedText (decodedText (recordCode s) (listSize s) (stopPosition s) (frameNumber s) handed) ≡ recordOutput s
   unfolding recordOutput decodedText
   good-record e = by-number (first (limitFaults (positions s) (listSize s))) refl ∙ ap output (tables-decide e)
     where
-      served : List ℕ
-      served = textOf (frameNumber s) (recordRows s)
+      text : List ℤ → List ℕ
+      text y = textOf (frameNumber s) (rows (codeTransform (recordCode s)) (recordCode s) y (listSize s) (stopPosition s))
 
       output : ℕ → List ℕ
-      output r = settled r refusedText served
+      output r = settled r refusedText (text handed)
 
       by-number : (t : ℕ) → t ≡ first (limitFaults (positions s) (listSize s))
-          → settled t refusedText (decodedText (recordCode s) (listSize s) (stopPosition s) (frameNumber s) (recordSoft s)) ≡ output t
-      by-number zero g = sym (settled-served refusedText served _ (decoder-accepts e g))
+          → settled t refusedText (decodedText (recordCode s) (listSize s) (stopPosition s) (frameNumber s) handed) ≡ output t
+      by-number zero g = sym (settled-served refusedText (text (taken handed)) _ (decoder-accepts e g)) ∙ ap text (taken-twice (recordSoft s))
       by-number (suc t) g = refl
 
   -- the map and the soft values at the front of slices are those of the record
   front : 0 ≡ reader → (a b : ℕ)
-      → blockText (exponent s) (listSize s) (stopPosition s) (frameNumber s) (padded 0 a (recordMap s)) (padded (pos 0) b (recordSoft s))
-      ≡ settled (first (limitFaults (positions s) (listSize s))) refusedText (decodedText (recordCode s) (listSize s) (stopPosition s) (frameNumber s) (recordSoft s))
+      → blockText (exponent s) (listSize s) (stopPosition s) (frameNumber s) (padded 0 a (recordMap s)) (padded (pos 0) b handed)
+      ≡ settled (first (limitFaults (positions s) (listSize s))) refusedText (decodedText (recordCode s) (listSize s) (stopPosition s) (frameNumber s) handed)
   unfolding blockText
-  front e a b =
-      rw (
-        take-at (recordMap s) (replicate (a - length (recordMap s)) 0) (mapBytes (positions s)) (map-long e),
-        take-at (recordSoft s) (replicate (b - length (recordSoft s)) (pos 0)) (positions s) (length-soft s (softAt s) (positions s)),
-      )
+  front e a b = rw (map-at-front s 128 1024 e a, soft-at-front s 128 1024 e b)
 
   -- the reader's slices, which have room for every record, and what it leaves in them
   module _ (map map′ : List ℕ) (soft soft′ : List ℤ) (maps : length map ≡ 128) (softs : length soft ≡ 1024) where

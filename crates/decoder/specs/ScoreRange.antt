@@ -10,12 +10,12 @@ use lib.ListN.{length}
 use lib.IntN.{ℤ, pos, negsuc, natAbs, subℕ, _+ℤ_}
 use lib.Signed.{leZ}
 use Rattle.spec.specs.Code.{Code, size, codeTransform}
-use Rattle.spec.specs.Score.{signed, correlation, maxℤ, largest, score}
+use Rattle.spec.specs.Score.{taken, signed, correlation, maxℤ, largest, score}
 use Rattle.spec.specs.Decoder.{Row, live, rowOf, rows}
 use Rattle.spec.specs.Faults.{some}
-use Rattle.spec.specs.Refusals.{Room, tooLarge, decodeFaults}
+use Rattle.spec.specs.Refusals.{Room, outOfRange, decodeFaults}
 use Rattle.laws.specs.Cost.{magnitude}
-use Rattle.laws.specs.Soft.{magnitude-range}
+use Rattle.laws.specs.Taken.{magnitude-range}
 use Rattle.laws.specs.FirstFault.{First, later, same-of}
 use Rattle.laws.specs.ListCost.{All, none, more}
 
@@ -63,21 +63,21 @@ size-largest T (suc k) y w =
     size-larger (largest T k y (w ++ 0 ∷ [])) (largest T k y (w ++ 1 ∷ [])) (magnitude y)
     (size-largest T k y (w ++ 0 ∷ [])) (size-largest T k y (w ++ 1 ∷ []))
 
--- The score of every prefix lies within ±2,047·n, where there are n soft values and none is out of range.
-pub score-in-range : (c : Code) (y : List ℤ) (w : List ℕ) → length y ≡ size c → some tooLarge y ≡ false
-    → InRange (size c) (score (codeTransform c) (size c) y w)
+-- The score of every prefix lies within ±2,047·n, where there are n soft values and none is out of range, −2,048 too.
+pub score-in-range : (c : Code) (y : List ℤ) (w : List ℕ) → length y ≡ size c → some outOfRange y ≡ false
+    → InRange (size c) (score (codeTransform c) (size c) (taken y) w)
 unfolding score
 score-in-range c y w long range =
-    omega (arith, size-largest (codeTransform c) (size c - length w) y w, magnitude-range y range)
+    omega (arith, size-largest (codeTransform c) (size c - length w) (taken y) w, magnitude-range y range)
 
 -- Every score of a call that is not refused lies within ±2,047·n.
 module _ (c : Code) (l p : ℕ) (soft : List ℤ) (r : Room) where
   pub row-scores-in-range : First (decodeFaults c l p soft r) 0
-      → All (λ (x : Row). InRange (size c) (x .score)) (rows (codeTransform c) c soft l p)
+      → All (λ (x : Row). InRange (size c) (x .score)) (rows (codeTransform c) c (taken soft) l p)
   unfolding rows
   row-scores-in-range (later _ (later _ (later _ (later _ (later _ (later long (later range _))))))) =
-      each (live (codeTransform c) c soft l p)
+      each (live (codeTransform c) c (taken soft) l p)
     where
-      each : (ws : List (List ℕ)) → All (λ (x : Row). InRange (size c) (x .score)) (map (rowOf (codeTransform c) c soft l) ws)
+      each : (ws : List (List ℕ)) → All (λ (x : Row). InRange (size c) (x .score)) (map (rowOf (codeTransform c) c (taken soft) l) ws)
       each [] = none
       each (w ∷ ws) = more (score-in-range c soft w (same-of (length soft) (size c) long) range) (each ws)

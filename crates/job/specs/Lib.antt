@@ -1,7 +1,9 @@
 pub mod Answer
 pub mod Calls
 pub mod SoftValues
+pub mod HandedOut
 pub mod RecordOf
 pub mod ReadBack
 pub mod Sample
 pub mod Refused
+pub mod FullScale

@@ -1,6 +1,6 @@
--- A record that is built from what it says is read back to exactly that. No code is in scope: the theorem is over the definitions.
+-- A record that is built from what it says is read back to exactly that, soft values as they are taken. No code is in scope: the theorem is over the definitions.
 use mathlib.Core.Path.{_≡_, refl, sym, ap, ap₂, _∙_}
-use mathlib.Core.Bool.{Bool, true, false, _||_, true≢false}
+use mathlib.Core.Bool.{Bool, false, _||_}
 use mathlib.Core.List.{List, [], _∷_, _++_, append-assoc}
 use Prim.Native.Nat.{ℕ, zero, suc, _+_, _-_, _*_, _/_, _%_, _^_, _≤_, _<_}
 use native.Mathlib.Omega.{arith}
@@ -11,11 +11,12 @@ use lib.ListN.{length, take, getD, length-append}
 use lib.Seq.{take-at, drop-at, getD-append-seam, getD-append-add}
 use lib.IntN.{ℤ, pos, negsuc}
 use Rattle.spec.specs.Code.{mapBytes}
+use Rattle.spec.specs.Score.{taken}
 use Rattle.spec.specs.Faults.{some}
-use Rattle.spec.specs.Refusals.{pastEnd, tooLarge}
+use Rattle.spec.specs.Refusals.{pastEnd, outOfRange}
 use Rattle.spec.specs.Record.{twoAt, signed16, softFrom, fields, positions, listSize, stopPosition, frameNumber, mapAt, softAt, recordMap, recordSoft, shapeFaults, fieldFaults}
 use Rattle.spec.specs.Outcome.{padded, reading, job, readRefusal, readServed, readOutcome}
-use Rattle.laws.specs.FirstFault.{none, later, is-first, inside, same}
+use Rattle.laws.specs.FirstFault.{none, later, is-first, inside, same, not-either}
 use Rattle.job.specs.Calls.{same-reading, read-served}
 use Rattle.job_fields.specs.Signed.{signed-low, signed-high}
 use Rattle.job.specs.RecordOf.{Field, absent, present, valueOr, Content, lowFirst, fieldBit, fieldBytes, sixteenBits, softBytes, headOf, recordOf}
@@ -31,7 +32,7 @@ pub record Valid (c : Content) : Type 0 where
   pub bytes : length (c .map) ≡ mapBytes (2 ^ c .m)
   pub ends : pastEnd (2 ^ c .m) (c .map) ≡ false
   pub values : length (c .soft) ≡ 2 ^ c .m
-  pub in-range : some tooLarge (c .soft) ≡ false
+  pub in-range : some outOfRange (c .soft) ≡ false
 
 -- ---- numbers from their bytes
 one-byte : (x : ℕ) → x < 256 → x % 256 ≡ x
@@ -77,27 +78,23 @@ length-softBytes [] = refl
 length-softBytes (y ∷ ys) = omega (arith, length-softBytes ys)
 
 -- a value in range, from its 16 bits
-signed-back : (y : ℤ) → tooLarge y ≡ false → signed16 (sixteenBits y) ≡ y
+signed-back : (y : ℤ) → outOfRange y ≡ false → signed16 (sixteenBits y) ≡ y
 signed-back (pos k) e = sym (signed-low k (omega (arith, ltb-false 2047 k e)))
 signed-back (negsuc k) e =
-    let h : suc k ≤ 2047 = ltb-false 2047 (suc k) e in
+    let h : k ≤ 2047 = ltb-false 2047 k (not-either (ltb 2047 k) false e .0) in
     let d : 65535 - (65535 - k) ≡ k = omega arith in
     sym (signed-high (65535 - k) (omega arith) (omega arith)) ∙ ap negsuc d
 
-sixteen : (y : ℤ) → tooLarge y ≡ false → sixteenBits y < 65536
+sixteen : (y : ℤ) → outOfRange y ≡ false → sixteenBits y < 65536
 sixteen (pos k) e = omega (arith, ltb-false 2047 k e)
 sixteen (negsuc k) e = omega arith
 
-not-either : (a b : Bool) → (a || b) ≡ false → (a ≡ false) × (b ≡ false)
-not-either true b e = absurd (true≢false e)
-not-either false b e = (refl, e)
-
 -- the values behind any bytes
-soft-back : (xs : List ℕ) (ys : List ℤ) → some tooLarge ys ≡ false → softFrom (xs ++ softBytes ys) (length xs) (length ys) ≡ ys
+soft-back : (xs : List ℕ) (ys : List ℤ) → some outOfRange ys ≡ false → softFrom (xs ++ softBytes ys) (length xs) (length ys) ≡ ys
 unfolding softFrom some
 soft-back xs [] e = refl
 soft-back xs (y ∷ ys) e =
-    let r = not-either (tooLarge y) (some tooLarge ys) e in
+    let r = not-either (outOfRange y) (some outOfRange ys) e in
     let x : ℕ = sixteenBits y in
     let ahead : List ℕ = xs ++ (x % 256 ∷ x / 256 % 256 ∷ []) in
     let s : List ℕ = xs ++ softBytes (y ∷ ys) in
@@ -156,7 +153,7 @@ module _ (c : Content) where
         let h = head-of in
         let n : ℕ = 2 ^ c .m in
         let past-map : pastEnd n (recordMap s) ≡ false = ap (pastEnd n) map-back ∙ v .ends in
-        let past-soft : some tooLarge (recordSoft s) ≡ false = ap (some tooLarge) values-back ∙ v .in-range in
+        let past-soft : some outOfRange (recordSoft s) ≡ false = ap (some outOfRange) values-back ∙ v .in-range in
         is-first (shapeFaults s ++ fieldFaults s maps softs) 0
         (later (ne-eqb (length s) 0 (λ q. omega arith))
         (later (le-ltb 7 (fields s) (h .known))
@@ -176,12 +173,12 @@ pub read-back : (c : Content) → Valid c → (map : List ℕ) (soft : List ℤ)
     → readOutcome (recordOf c) map soft
     ≡ reading (job (c .m) (valueOr 4 (c .size)) (valueOr (2 ^ c .m) (c .stop)) (valueOr 0 (c .frame)))
     (padded 0 (length map) (c .map))
-    (padded (pos 0) (length soft) (c .soft))
+    (padded (pos 0) (length soft) (taken (c .soft)))
 unfolding recordOf readServed
 read-back c v map soft hm hs =
     let h = head-of c v in
     sym (read-served (s c) map soft (accepted c v (length map) (length soft) hm hs))
-    ∙ same-reading (same-job (h .size-is) (h .stop-is) (h .frame-is)) (ap (padded 0 (length map)) (map-back c v)) (ap (padded (pos 0) (length soft)) (values-back c v))
+    ∙ same-reading (same-job (h .size-is) (h .stop-is) (h .frame-is)) (ap (padded 0 (length map)) (map-back c v)) (ap (λ (y : List ℤ). padded (pos 0) (length soft) (taken y)) (values-back c v))
   where
     same-job : {l l′ p p′ f f′ : ℕ} → l ≡ l′ → p ≡ p′ → f ≡ f′ → job (c .m) l p f ≡ job (c .m) l′ p′ f′
     same-job a b d = rw (a, b, d)

@@ -33,6 +33,12 @@ pub sample-refused : readOutcome sample (9 ∷ []) (pos 9 ∷ pos 9 ∷ pos 9 �
 unfolding sample readOutcome readRefusal readServed first some pastEnd unpacked bitsOf softFrom
 sample-refused = refl
 
+-- -2,048, 2,047, -2,047 and 7: -2,047 is handed out for the first
+pub full-scale-read : readOutcome (0 ∷ 2 ∷ 3 ∷ 0 ∷ 248 ∷ 255 ∷ 7 ∷ 1 ∷ 248 ∷ 7 ∷ 0 ∷ []) (9 ∷ []) (pos 9 ∷ pos 9 ∷ pos 9 ∷ pos 9 ∷ [])
+    ≡ reading (job 2 4 4 0) (3 ∷ []) (negsuc 2046 ∷ pos 2047 ∷ negsuc 2046 ∷ pos 7 ∷ [])
+unfolding readOutcome readRefusal readServed first some pastEnd unpacked bitsOf softFrom
+full-scale-read = refl
+
 -- the number for a record of four positions with all fields, and room for it
 abbrev pub numberFor : List ℕ → ℕ
 numberFor s = readRefusal s 1 4
@@ -41,7 +47,7 @@ abbrev pub values : List ℕ
 values = 5 ∷ 0 ∷ 253 ∷ 255 ∷ 2 ∷ 0 ∷ 7 ∷ 0 ∷ []
 
 -- each condition of a record, in its order: empty; first byte 08, of one byte and of two; one byte; m = 1; one byte too many; map 10 hex;
--- list size 0 and 33; stop position 5; soft value -2,048; and a record with nothing wrong
+-- list size 0 and 33; stop position 5; soft values -2,049 and 2,048; and records with nothing wrong, the first with -2,048
 unfoldable pub records : List (List ℕ)
 records =
     []
@@ -54,10 +60,12 @@ records =
     ∷ ((7 ∷ 2 ∷ 0 ∷ 5 ∷ 0 ∷ 1 ∷ 2 ∷ 3 ∷ 4 ∷ 15 ∷ []) ++ values)
     ∷ ((7 ∷ 2 ∷ 33 ∷ 5 ∷ 0 ∷ 1 ∷ 2 ∷ 3 ∷ 4 ∷ 15 ∷ []) ++ values)
     ∷ ((7 ∷ 2 ∷ 32 ∷ 5 ∷ 0 ∷ 1 ∷ 2 ∷ 3 ∷ 4 ∷ 15 ∷ []) ++ values)
+    ∷ (7 ∷ 2 ∷ 32 ∷ 4 ∷ 0 ∷ 1 ∷ 2 ∷ 3 ∷ 4 ∷ 15 ∷ 5 ∷ 0 ∷ 253 ∷ 255 ∷ 2 ∷ 0 ∷ 255 ∷ 247 ∷ [])
+    ∷ (7 ∷ 2 ∷ 32 ∷ 4 ∷ 0 ∷ 1 ∷ 2 ∷ 3 ∷ 4 ∷ 15 ∷ 5 ∷ 0 ∷ 253 ∷ 255 ∷ 2 ∷ 0 ∷ 0 ∷ 8 ∷ [])
     ∷ (7 ∷ 2 ∷ 32 ∷ 4 ∷ 0 ∷ 1 ∷ 2 ∷ 3 ∷ 4 ∷ 15 ∷ 5 ∷ 0 ∷ 253 ∷ 255 ∷ 2 ∷ 0 ∷ 0 ∷ 248 ∷ [])
     ∷ ((7 ∷ 2 ∷ 32 ∷ 4 ∷ 0 ∷ 1 ∷ 2 ∷ 3 ∷ 4 ∷ 15 ∷ []) ++ values)
     ∷ []
 
-pub refused-in-order : map numberFor records ≡ 13 ∷ 14 ∷ 14 ∷ 13 ∷ 1 ∷ 13 ∷ 3 ∷ 4 ∷ 4 ∷ 5 ∷ 7 ∷ 0 ∷ []
+pub refused-in-order : map numberFor records ≡ 13 ∷ 14 ∷ 14 ∷ 13 ∷ 1 ∷ 13 ∷ 3 ∷ 4 ∷ 4 ∷ 5 ∷ 7 ∷ 7 ∷ 0 ∷ 0 ∷ []
 unfolding records readRefusal first some pastEnd unpacked bitsOf softFrom
 refused-in-order = refl

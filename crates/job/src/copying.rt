@@ -1,14 +1,19 @@
-// The frozen map and the soft values of a record, at the front of a lent slice each, and 0 behind.
+// The frozen map and the soft values of a record, these as they are taken, at the front of a lent slice each, and 0 behind.
 use job_fields::Layout;
 use job_fields::soft_value;
+use ranges::saturated;
 use slices::copy;
 use slices::fill_bytes;
 use slices::fill_soft;
 ghost use mathlib.Core.Path.{_≡_};
+ghost use mathlib.Core.Bool.{false};
 ghost use Prim.Native.Nat.{_+_, _*_, _≤_};
 ghost use lib.ListN.{length};
 ghost use lib.IntN.{pos};
 ghost use Rattle.spec.specs.Code.{mapBytes};
+ghost use Rattle.spec.specs.Score.{taken};
+ghost use Rattle.spec.specs.Faults.{some};
+ghost use Rattle.spec.specs.Refusals.{outOfRange};
 ghost use Rattle.spec.specs.Record.{positions, softFrom, recordMap, recordSoft};
 ghost use Rattle.spec.specs.Outcome.{padded};
 ghost use Rattle.job_fields.specs.Laid.{Laid};
@@ -24,21 +29,24 @@ pub(crate) fn write_map(bytes: &[u8], at: Layout, map: &mut [u8])
     fill_bytes(map, k);
 }
 
-// As many soft values as `soft` has places, from a place of the record on.
+// As many soft values as `soft` has places, all in range, from a place of the record on.
 fn copy_soft(bytes: &[u8], at: usize, soft: &mut [i16])
-    requires { ⌜ (length (now soft) ≤ 1024) × (at + 2 * length (now soft) ≤ length (now bytes)) ⌝ }
-    ensures { λ _. ⌜ now (soft .exit) ≡ softFrom (now (bytes .entry)) at (length (now (soft .entry))) ⌝ }
+    requires { ⌜ (length (now soft) ≤ 1024) × (at + 2 * length (now soft) ≤ length (now bytes))
+        × (some outOfRange (softFrom (now bytes) at (length (now soft))) ≡ false) ⌝ }
+    ensures { λ _. ⌜ now (soft .exit) ≡ taken (softFrom (now (bytes .entry)) at (length (now (soft .entry)))) ⌝ }
 {
     let mut i = 0;
     while i < soft.len() {
-        soft[i] = soft_value(bytes, at + 2 * i);
+        let held = soft_value(bytes, at + 2 * i);
+        let y = saturated(held);
+        soft[i] = y;
         i += 1;
     }
 }
 
 pub(crate) fn write_soft(bytes: &[u8], at: Layout, soft: &mut [i16])
-    requires { ⌜ (Laid (now bytes) at) × (positions (now bytes) ≤ length (now soft)) ⌝ }
-    ensures { λ _. ⌜ now (soft .exit) ≡ padded (pos 0) (length (now (soft .entry))) (recordSoft (now (bytes .entry))) ⌝ }
+    requires { ⌜ (Laid (now bytes) at) × (positions (now bytes) ≤ length (now soft)) × (some outOfRange (recordSoft (now bytes)) ≡ false) ⌝ }
+    ensures { λ _. ⌜ now (soft .exit) ≡ padded (pos 0) (length (now (soft .entry))) (taken (recordSoft (now (bytes .entry)))) ⌝ }
 {
     let n = at.n;
     copy_soft(bytes, at.soft, &mut soft[..n]);

@@ -5,7 +5,7 @@ use Prim.Native.Nat.{ℕ, _+_, _*_}
 use lib.ListN.{length}
 use Rattle.spec.specs.Code.{mapBytes}
 use Rattle.spec.specs.Faults.{Fault, fault, some}
-use Rattle.spec.specs.Refusals.{pastEnd, tooLarge, roomFault}
+use Rattle.spec.specs.Refusals.{pastEnd, outOfRange, roomFault}
 use Rattle.spec.specs.Record.{exponent, positions, listSize, stopPosition, softAt, recordMap, recordSoft, shapeFaults}
 use Rattle.laws.specs.FirstFault.{First, none, later, Numbered, end, next, inside-of, same-of}
 use Rattle.ranges.specs.Ranges.{rangeFaults, range-numbers}
@@ -19,7 +19,7 @@ module _ (s : List ℕ) where
   mapAndRangeFaults = mapFaults ++ rangeFaults (positions s) (listSize s) (stopPosition s)
 
   abbrev pub lentFaults : ℕ → ℕ → List Fault
-  lentFaults maps softs = fault 7 (some tooLarge (recordSoft s)) ∷ roomFault (mapBytes (positions s)) maps ∷ roomFault (positions s) softs ∷ []
+  lentFaults maps softs = fault 7 (some outOfRange (recordSoft s)) ∷ roomFault (mapBytes (positions s)) maps ∷ roomFault (positions s) softs ∷ []
 
   abbrev pub shape-numbers : Numbered (shapeFaults s)
   shape-numbers = next (next (next (next (next end))))

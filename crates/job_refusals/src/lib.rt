@@ -8,8 +8,8 @@ use job_fields::map_at;
 use job_fields::soft_value;
 use job_fields::stop_position;
 use job_fields::wide;
+use ranges::out_of_range;
 use ranges::range_refusal;
-use ranges::too_large;
 ghost use mathlib.Core.Bool.{_||_};
 ghost use mathlib.Core.Path.{_≡_};
 ghost use Prim.Native.Nat.{_+_, _*_, _≤_};
@@ -17,7 +17,7 @@ ghost use lib.Dec.{ltb};
 ghost use lib.ListN.{length};
 ghost use Rattle.spec.specs.Code.{mapBytes};
 ghost use Rattle.spec.specs.Faults.{first, some};
-ghost use Rattle.spec.specs.Refusals.{tooLarge};
+ghost use Rattle.spec.specs.Refusals.{outOfRange};
 ghost use Rattle.spec.specs.Record.{softFrom, shapeFaults};
 ghost use Rattle.spec.specs.Outcome.{readRefusal};
 ghost use Rattle.job_fields.specs.Laid.{Laid};
@@ -76,13 +76,13 @@ fn map_and_range_refusal(bytes: &[u8], at: Layout) -> u32
 }
 
 // One of n soft values from a place on is out of range.
-fn some_too_large(bytes: &[u8], at: usize, n: usize) -> bool
+fn some_out_of_range(bytes: &[u8], at: usize, n: usize) -> bool
     requires { ⌜ (n ≤ 1024) × (at + 2 * n ≤ length (now bytes)) ⌝ }
-    ensures { λ r. ⌜ r ≡ some tooLarge (softFrom (now (bytes .entry)) at n) ⌝ }
+    ensures { λ r. ⌜ r ≡ some outOfRange (softFrom (now (bytes .entry)) at n) ⌝ }
 {
     let mut i = 0;
     while i < n {
-        if too_large(soft_value(bytes, at + 2 * i)) {
+        if out_of_range(soft_value(bytes, at + 2 * i)) {
             return true;
         }
         i += 1;
@@ -106,9 +106,9 @@ fn lent_refusal(bytes: &[u8], at: Layout, maps: usize, softs: usize) -> u32
     requires { ⌜ Laid (now bytes) at ⌝ }
     ensures { λ r. ⌜ r ≡ first (lentFaults (now (bytes .entry)) maps softs) ⌝ }
 {
-    let large = some_too_large(bytes, at.soft, at.n);
+    let outside = some_out_of_range(bytes, at.soft, at.n);
     let short = too_short(at.n, maps, softs);
-    if large {
+    if outside {
         return 7;
     }
     if short {

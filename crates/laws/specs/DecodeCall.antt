@@ -1,5 +1,6 @@
 -- A decoder call that is not refused: what is known of its arguments, and what it comes to.
 use mathlib.Core.Path.{_≡_, sym}
+use mathlib.Core.Bool.{false}
 use mathlib.Core.List.{List}
 use Prim.Native.Nat.{ℕ, _≤_}
 use native.Mathlib.Omega.{arith}
@@ -7,8 +8,10 @@ use borrow.Author.Tests.{ltb-false}
 use lib.ListN.{length}
 use lib.IntN.{ℤ}
 use Rattle.spec.specs.Code.{Code, size, mapBytes, codeTransform}
+use Rattle.spec.specs.Score.{taken}
 use Rattle.spec.specs.Decoder.{rows}
-use Rattle.spec.specs.Refusals.{Room, decodeFaults}
+use Rattle.spec.specs.Faults.{some}
+use Rattle.spec.specs.Refusals.{Room, outOfRange, decodeFaults}
 use Rattle.spec.specs.Outcome.{refusedBy, Lent, roomOf, decoding, decodeRefusal, decodeServed, decodeOutcome}
 use Rattle.spec.specs.RowCount.{row-count}
 use Rattle.laws.specs.FirstFault.{First, later, of-first, inside-of, same-of, settled-served}
@@ -20,11 +23,14 @@ module _ (c : Code) (l p : ℕ) (soft : List ℤ) (r : Room) where
   pub stop-in-range : First (decodeFaults c l p soft r) 0 → p ≤ size c
   stop-in-range (later a (later b (later d (later e (later h f))))) = ltb-false (size c) p h
 
+  pub soft-in-range : First (decodeFaults c l p soft r) 0 → some outOfRange soft ≡ false
+  soft-in-range (later a (later b (later d (later e (later h (later i (later j f))))))) = j
+
   map-right : First (decodeFaults c l p soft r) 0 → length (c .map) ≡ mapBytes (size c)
   map-right (later a (later b f)) = same-of (length (c .map)) (mapBytes (size c)) b
 
-  pub rows-at-most : First (decodeFaults c l p soft r) 0 → length (rows (codeTransform c) c soft l p) ≤ l
-  rows-at-most f = omega (arith, row-count (codeTransform c) c soft l p (list-in-range f .0) (map-right f) (stop-in-range f))
+  pub rows-at-most : First (decodeFaults c l p soft r) 0 → length (rows (codeTransform c) c (taken soft) l p) ≤ l
+  rows-at-most f = omega (arith, row-count (codeTransform c) c (taken soft) l p (list-in-range f .0) (map-right f) (stop-in-range f))
 
 module _ (c : Code) (l p : ℕ) (soft : List ℤ) where
   abbrev pub AcceptedCall : Lent → Type 0

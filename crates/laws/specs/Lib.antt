@@ -10,9 +10,11 @@ pub mod Bounds
 pub mod ListCost
 pub mod Inverse
 pub mod Soft
+pub mod Taken
 pub mod FirstFault
 pub mod MapBits
 pub mod FrozenMap
 pub mod Accepted
 pub mod DecodeCall
+pub mod FullScale
 pub mod ScoreOfChildren

@@ -1,17 +1,12 @@
--- Where a node's soft values stand among those of the whole word, and how large a word's magnitude can be.
+-- Where a node's soft values stand among those of the whole word.
 use mathlib.Core.Path.{_≡_, refl, sym, ap, ap₂, _∙_}
-use mathlib.Core.Bool.{Bool, true, false, _||_, true≢false}
 use mathlib.Core.List.{List, [], _∷_}
-use Prim.Native.Nat.{ℕ, zero, suc, _+_, _*_, _^_, _<_, _≤_}
+use Prim.Native.Nat.{ℕ, zero, suc, _+_, _*_, _^_, _<_}
 use native.Mathlib.Omega.{arith}
 use native.Mathlib.Nat.{zero-add, mul-assoc, mul-comm}
 use lib.ListN.{length, getD}
-use lib.IntN.{ℤ, pos, natAbs}
-use borrow.Author.Tests.{ltb-false}
+use lib.IntN.{ℤ, pos}
 use Rattle.spec.specs.Transform.{evens, odds}
-use Rattle.spec.specs.Faults.{some}
-use Rattle.spec.specs.Refusals.{tooLarge}
-use Rattle.laws.specs.Cost.{magnitude}
 use Rattle.laws.specs.Layer.{double, double-is, pow-double}
 use Rattle.laws.specs.Entries.{getD-evens, getD-odds}
 use Rattle.laws.specs.Inverse.{length-evens, length-odds}
@@ -73,13 +68,3 @@ nodeSoft-bottom deep y i h e =
   where
     at : (k j : ℕ) → i + 2 ^ deep * k ≡ j → getD (nodeSoft deep y i) k (pos 0) ≡ getD y j (pos 0)
     at k j p = getD-nodeSoft deep y i k h ∙ ap (λ (z : ℕ). getD y z (pos 0)) p
-
--- ---- where no value is out of range, the magnitude is at most 2047 for each
-pub magnitude-range : (y : List ℤ) → some tooLarge y ≡ false → magnitude y ≤ 2047 * length y
-unfolding some
-magnitude-range [] e = omega arith
-magnitude-range (x ∷ y) e = go (tooLarge x) refl (λ q. magnitude-range y q) e
-  where
-    go : (c : Bool) → tooLarge x ≡ c → (some tooLarge y ≡ false → magnitude y ≤ 2047 * length y) → c || some tooLarge y ≡ false → natAbs x + magnitude y ≤ 2047 * suc (length y)
-    go true _ ih q = absurd (true≢false q)
-    go false p ih q = omega (arith, ih q, ltb-false 2047 (natAbs x) p)

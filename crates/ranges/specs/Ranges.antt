@@ -5,7 +5,7 @@ use lib.Dec.{ltb}
 use lib.IntN.{ℤ}
 use lib.ListN.{length}
 use Rattle.spec.specs.Faults.{Fault, fault, outside, some}
-use Rattle.spec.specs.Refusals.{tooLarge, lengthFault}
+use Rattle.spec.specs.Refusals.{outOfRange, lengthFault}
 use Rattle.laws.specs.FirstFault.{Numbered, end, next}
 
 -- 4 and 5: list size l and stop position p for n positions
@@ -17,4 +17,4 @@ range-numbers n l p = next (next end)
 
 -- 6 and 7: soft values for n positions
 abbrev pub softFaults : ℕ → List ℤ → List Fault
-softFaults n soft = lengthFault n (length soft) ∷ fault 7 (some tooLarge soft) ∷ []
+softFaults n soft = lengthFault n (length soft) ∷ fault 7 (some outOfRange soft) ∷ []

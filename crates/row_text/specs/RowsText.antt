@@ -1,4 +1,4 @@
--- The text of the paper decoder's rows, with no slice in sight, and that the program writes it from what a served decoder call leaves.
+-- The text of the paper decoder's rows, with no slice in sight, and that the program writes it from slices that hold these rows.
 -- Beside it the sample of 01, "The program's output".
 use mathlib.Core.Path.{_≡_, refl, ap}
 use mathlib.Core.List.{List, [], _∷_, _++_, map, append-assoc}
@@ -10,7 +10,7 @@ use lib.IntN.{ℤ}
 use Rattle.spec.specs.Code.{Code, size, codeTransform}
 use Rattle.spec.specs.Decoder.{Row, rowOf, live, rows}
 use Rattle.spec.specs.Refusals.{Room}
-use Rattle.spec.specs.Outcome.{concat, Lent, decodedRows, decodeServed}
+use Rattle.spec.specs.Outcome.{concat, Lent, decodedRows}
 use Rattle.laws.specs.Layer.{length-transform}
 use Rattle.laws.specs.ListCost.{All, none, more, Long, filled-long, live-long}
 use Rattle.row_text.specs.Output.{frameLine, rowLine, rowLines, outputOf}
@@ -55,9 +55,9 @@ module _ (c : Code) (y : List ℤ) (l p : ℕ) (h : p ≤ size c) where
       let long : length u ≡ 2 ^ c .m = filled-long (size c) w (omega (arith, e, h)) in
       more (long, length-transform (c .m) u long) (wide ws all)
 
-  -- what is written from a served call is the text of the paper decoder's rows
-  pub output-of-served : (frame : ℕ) (r : Room) → let x : Lent = decodeServed c l p y r .left in
+  -- what is written from slices that hold the paper decoder's rows is their text
+  pub output-of-served : (frame : ℕ) (r : Room) → let x : Lent = decodedRows r (rows (codeTransform c) c y l p) .left in
       outputOf frame (length (rows (codeTransform c) c y l p)) (size c) (x .inputs) (x .words) (x .scores) ≡ textOf frame (rows (codeTransform c) c y l p)
-  unfolding decodeServed rows
+  unfolding rows
   output-of-served frame r =
       output-of-rows frame (size c) (rows (codeTransform c) c y l p) (wide (live (codeTransform c) c y l p) (live-long (codeTransform c) c y l p)) r

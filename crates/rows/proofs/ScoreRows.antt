@@ -1,33 +1,17 @@
 -- The loops that sum the magnitudes and write the scores. Assumes nothing.
-use mathlib.Core.Path.{_≡_, refl, sym, ap, _∙_}
-use mathlib.Core.Bool.{Bool, true, false, true≢false, _||_}
+use mathlib.Core.Path.{_≡_, sym, ap, _∙_}
 use mathlib.Core.List.{List, [], _∷_, _++_, map, map-append}
-use Prim.Native.Nat.{ℕ, zero, suc, _+_, _-_, _<_, _≤_}
+use Prim.Native.Nat.{ℕ, suc, _+_, _-_, _<_, _≤_}
 use native.Mathlib.Omega.{arith}
 use native.Mathlib.Numerals.{add-one}
-use borrow.Author.Tests.{ltb-false}
 use lib.ListN.{length, take, drop, getD, set, replicate, length-map, length-append, length-take, drop-of-length-le}
 use lib.Seq.{take-suc, drop-cons, set-at, append-snoc}
 use lib.IntN.{ℤ, pos, natAbs}
-use Rattle.spec.specs.Faults.{some}
-use Rattle.spec.specs.Refusals.{tooLarge}
 use Rattle.spec.specs.Outcome.{padded}
 use Rattle.laws.specs.Cost.{magnitude}
 use Rattle.rows.specs.Scores.{scoreFrom, ScoresWritten}
 
 -- ---- magnitudes
--- no soft value is above 2,047 where none is too large
-pub at-most : (soft : List ℤ) → some tooLarge soft ≡ false → (i : ℕ) → natAbs (getD soft i (pos 0)) ≤ 2047
-unfolding some
-at-most [] e i = omega arith
-at-most (y ∷ ys) e i = go (tooLarge y) refl e i (at-most ys)
-  where
-    go : (b : Bool) → tooLarge y ≡ b → (b || some tooLarge ys) ≡ false → (i : ℕ)
-        → (some tooLarge ys ≡ false → (i : ℕ) → natAbs (getD ys i (pos 0)) ≤ 2047) → natAbs (getD (y ∷ ys) i (pos 0)) ≤ 2047
-    go true t e i rest = absurd (true≢false e)
-    go false t e zero rest = ltb-false 2047 (natAbs y) t
-    go false t e (suc i) rest = rest e i
-
 -- one value more
 pub magnitude-next : (soft : List ℤ) (i : ℕ) → i < length soft → magnitude (drop i soft) ≡ natAbs (getD soft i (pos 0)) + magnitude (drop (i + 1) soft)
 magnitude-next soft i h = rw (add-one i) (ap magnitude (drop-cons soft i (pos 0) h))

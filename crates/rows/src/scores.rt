@@ -4,10 +4,12 @@ ghost use mathlib.Core.Bool.{false};
 ghost use Prim.Native.Nat.{_*_, _≤_};
 ghost use lib.ListN.{length};
 ghost use lib.IntN.{natAbs};
+ghost use Rattle.spec.specs.Score.{taken};
 ghost use Rattle.spec.specs.Faults.{some};
-ghost use Rattle.spec.specs.Refusals.{tooLarge};
+ghost use Rattle.spec.specs.Refusals.{outOfRange};
 ghost use Rattle.laws.specs.Cost.{magnitude};
 ghost use Rattle.rows.specs.Scores.{scoreFrom, ScoresFit, ScoresWritten};
+use ranges::taken_at;
 use slices::fill_scores;
 
 // The magnitude of one soft value.
@@ -21,15 +23,15 @@ fn magnitude_of(y: i16) -> u32
     }
 }
 
-// The sum of the soft values' magnitudes, none of which is above 2,047.
+// The sum of the soft values' magnitudes, as they are taken.
 pub fn magnitude(soft: &[i16]) -> u32
-    requires { ⌜ (length (now soft) ≤ 1024) × (some tooLarge (now soft) ≡ false) ⌝ }
-    ensures { λ r. ⌜ (r ≡ magnitude (now (soft .entry))) × (r ≤ 2047 * length (now (soft .entry))) ⌝ }
+    requires { ⌜ (length (now soft) ≤ 1024) × (some outOfRange (now soft) ≡ false) ⌝ }
+    ensures { λ r. ⌜ r ≡ magnitude (taken (now (soft .entry))) ⌝ }
 {
     let mut sum: u32 = 0;
     let mut i = 0;
     while i < soft.len() {
-        let y = soft[i];
+        let y = taken_at(soft, i);
         sum += magnitude_of(y);
         i += 1;
     }

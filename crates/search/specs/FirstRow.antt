@@ -8,6 +8,7 @@ use lib.ListN.{length, take, getD, replicate}
 use lib.Seq.{take-at}
 use lib.IntN.{ℤ, pos}
 use Rattle.spec.specs.Code.{Code, size, frozen, codeTransform}
+use Rattle.spec.specs.Score.{taken}
 use Rattle.spec.specs.Decoder.{Row, continued, children, scoreOf, live, rowOf, rows}
 use Rattle.spec.specs.Refusals.{Room}
 use Rattle.spec.specs.Outcome.{Lent, roomOf, Decoding, concat, padded, decodedRows, decodeServed, decodeOutcome}
@@ -59,11 +60,14 @@ module _ (c : Code) (l p : ℕ) (soft : List ℤ) (x : Lent) (a : AcceptedCall c
   abbrev T : List ℕ → List ℕ
   T = codeTransform c
 
+  abbrev y : List ℤ
+  y = taken soft
+
   pub record FirstOfCall : Type 0 where
     pub prefix : List ℕ
-    pub ahead-of : Leads (scoreOf T c soft l) prefix (live T c soft l p)
+    pub ahead-of : Leads (scoreOf T c y l) prefix (live T c y l p)
     pub long : length prefix ≡ p
-    pub is : firstRow (size c) (decodeOutcome c l p soft x) ≡ rowOf T c soft l prefix
+    pub is : firstRow (size c) (decodeOutcome c l p soft x) ≡ rowOf T c y l prefix
 
   pub some-list : 1 ≤ l
   some-list = list-in-range c l p soft (roomOf x) (accepted-faults c l p soft x a) .0
@@ -71,18 +75,18 @@ module _ (c : Code) (l p : ℕ) (soft : List ℤ) (x : Lent) (a : AcceptedCall c
   pub stop-inside : p ≤ size c
   stop-inside = stop-in-range c l p soft (roomOf x) (accepted-faults c l p soft x a)
 
-  row-of : (h : List ℕ) → length h ≡ p → {ws : List (List ℕ)} → Leads (scoreOf T c soft l) h ws
-      → firstRow (size c) (decodedRows (roomOf x) (map (rowOf T c soft l) ws)) ≡ rowOf T c soft l h
+  row-of : (h : List ℕ) → length h ≡ p → {ws : List (List ℕ)} → Leads (scoreOf T c y l) h ws
+      → firstRow (size c) (decodedRows (roomOf x) (map (rowOf T c y l) ws)) ≡ rowOf T c y l h
   row-of h e (leads {ws} q) =
       let u : List ℕ = h ++ replicate (size c - length h) 0 in
       let long : length u ≡ size c = filled-long (size c) h (omega (arith, e, stop-inside)) in
-      first-written (size c) (rowOf T c soft l h) (map (rowOf T c soft l) ws) (roomOf x) long (length-transform (c .m) u long)
+      first-written (size c) (rowOf T c y l h) (map (rowOf T c y l) ws) (roomOf x) long (length-transform (c .m) u long)
 
   pub first-of-call : FirstOfCall
   unfolding decodeServed rows
   first-of-call =
-      let h = live-leads (scoreOf T c soft l) (children c) l some-list (goes c) p in
-      let long : length (h .0) ≡ p = all-in (live-long T c soft l p) (leads-in (scoreOf T c soft l) (h .1)) in
+      let h = live-leads (scoreOf T c y l) (children c) l some-list (goes c) p in
+      let long : length (h .0) ≡ p = all-in (live-long T c y l p) (leads-in (scoreOf T c y l) (h .1)) in
       record {
         prefix = h .0;
         ahead-of = h .1;
@@ -93,10 +97,10 @@ module _ (c : Code) (l p : ℕ) (soft : List ℤ) (x : Lent) (a : AcceptedCall c
 -- ---- the theorems
 module _ (c : Code) (l p q : ℕ) (soft : List ℤ) (x x′ : Lent) where
   abbrev rowFor : List ℕ → Row
-  rowFor = rowOf (codeTransform c) c soft l
+  rowFor = rowOf (codeTransform c) c (taken soft) l
 
   -- the row of a prefix of p bits, from that of a longer one with the same score
-  known-of : (h rest : List ℕ) → length h ≡ p → scoreOf (codeTransform c) c soft l (h ++ rest) ≡ scoreOf (codeTransform c) c soft l h → rowFor h ≡ knownAt c p (rowFor (h ++ rest))
+  known-of : (h rest : List ℕ) → length h ≡ p → scoreOf (codeTransform c) c (taken soft) l (h ++ rest) ≡ scoreOf (codeTransform c) c (taken soft) l h → rowFor h ≡ knownAt c p (rowFor (h ++ rest))
   known-of h rest e same =
       let zeros : List ℕ = replicate (size c - length (h ++ rest)) 0 in
       let begins : take p ((h ++ rest) ++ zeros) ≡ h = ap (take p) (append-assoc h rest zeros) ∙ take-at h (rest ++ zeros) p e in
@@ -108,16 +112,16 @@ module _ (c : Code) (l p q : ℕ) (soft : List ℤ) (x x′ : Lent) where
   pub first-row-stays : AcceptedCall c l p soft x → AcceptedCall c l q soft x′ → p ≤ q → ClearFrom c p q
       → firstRow (size c) (decodeOutcome c l p soft x) ≡ knownAt c p (firstRow (size c) (decodeOutcome c l q soft x′))
   first-row-stays a a′ below clear =
-      let s : List ℕ → ℤ = scoreOf (codeTransform c) c soft l in
+      let s : List ℕ → ℤ = scoreOf (codeTransform c) c (taken soft) l in
       let some : 1 ≤ l = some-list c l p soft x a in
       let at-p = first-of-call c l p soft x a in
       let at-q = first-of-call c l q soft x′ a′ in
       let there : q ≤ size c = stop-inside c l q soft x′ a′ in
       let on = first-extends s (children c) l some (goes c) p (q - p)
-      (λ i lo hi. clear-at c soft l some i (omega (arith, there)) (clear i (omega arith) (omega arith))) (at-p .ahead-of) in
+      (λ i lo hi. clear-at c (taken soft) l some i (omega (arith, there)) (clear i (omega arith) (omega arith))) (at-p .ahead-of) in
       let e : p + (q - p) ≡ q = omega arith in
       let is : at-q .prefix ≡ at-p .prefix ++ on .rest
-      = leads-same s (at-q .ahead-of) (subst (λ (j : ℕ). Leads s (at-p .prefix ++ on .rest) (live (codeTransform c) c soft l j)) e (on .first)) in
+      = leads-same s (at-q .ahead-of) (subst (λ (j : ℕ). Leads s (at-p .prefix ++ on .rest) (live (codeTransform c) c (taken soft) l j)) e (on .first)) in
       at-p .is ∙ known-of (at-p .prefix) (on .rest) (at-p .long) (on .same) ∙ ap (λ (h : List ℕ). knownAt c p (rowFor h)) (sym is) ∙ ap (knownAt c p) (sym (at-q .is))
 
 -- Past every frozen position: the same at stop n, whatever the code, the soft values, the list size and the lent memory are.

@@ -2,15 +2,16 @@
 use mathlib.Core.Path.{_≡_, refl}
 use mathlib.Core.List.{List, [], _∷_, map}
 use Prim.Native.Nat.{ℕ}
+use lib.ListN.{replicate}
 use lib.IntN.{ℤ, pos, negsuc}
 use Rattle.spec.specs.Bits.{bitsOf, unpacked}
 use Rattle.spec.specs.Transform.{transform, inverse}
 use Rattle.spec.specs.Code.{Code, code, frozen, codeTransform, encoded, inputOf, extracted}
-use Rattle.spec.specs.Score.{largest, score}
+use Rattle.spec.specs.Score.{taken, largest, score}
 use Rattle.spec.specs.Decoder.{Row, children, liveBy, rows}
 use Rattle.spec.specs.Faults.{first, some}
-use Rattle.spec.specs.Refusals.{pastEnd}
-use Rattle.spec.specs.Outcome.{Written, written, encodeRefusal, encodeOutcome, extractRefusal, extractOutcome}
+use Rattle.spec.specs.Refusals.{pastEnd, room}
+use Rattle.spec.specs.Outcome.{Written, written, encodeRefusal, encodeOutcome, extractRefusal, extractOutcome, lent, decodeRefusal, decodeServed, decodeOutcome}
 
 pub data Value : Type 0 where
   words : List (List ℕ) → Value
@@ -38,6 +39,10 @@ y₂ = pos 1 ∷ negsuc 4 ∷ pos 2 ∷ pos 2 ∷ []
 
 unfoldable pub y₀ : List ℤ
 y₀ = pos 0 ∷ pos 0 ∷ pos 0 ∷ pos 0 ∷ []
+
+-- four times −2,048
+unfoldable pub yₘ : List ℤ
+yₘ = replicate 4 (negsuc 2047)
 
 -- codes of four positions by their map: frozen 0 and 1; frozen 1, 2 and 3; nothing frozen
 unfoldable pub frozen01 : Code
@@ -74,8 +79,14 @@ table =
     ∷ (decoded (map shown (decode frozen123 y₂ 2 4)) is decoded ((word4 0 0 0 0, pos 0) ∷ (word4 1 0 0 0, negsuc 1) ∷ []))
     ∷ (decoded (map shown (decode noneFrozen y₀ 2 4)) is decoded ((word4 0 0 0 0, pos 0) ∷ (word4 0 0 0 1, pos 0) ∷ []))
     ∷ (decoded (map shown (decode noneFrozen y₁ 2 0)) is decoded ((word4 0 0 0 0, pos 17) ∷ []))
+    -- 02, wish 1: −2,048 is taken as −2,047, in the scores too; 7 is for −2,049 and 2,048, not for −2,048 and 2,047
+    ∷ (scores (taken (negsuc 2047 ∷ negsuc 2046 ∷ pos 2047 ∷ [])) is scores (negsuc 2046 ∷ negsuc 2046 ∷ pos 2047 ∷ []))
+    ∷ (scores (decodeOutcome noneFrozen 1 4 yₘ (lent (replicate 128 9) (replicate 272 9) (word4 9 9 9 9) (word4 9 9 9 9) (pos 9 ∷ [])) .left .scores)
+    is scores (pos 8188 ∷ []))
+    ∷ (words (map (λ (y : ℤ). decodeRefusal noneFrozen 1 4 (y ∷ y ∷ y ∷ y ∷ []) (room 128 272 4 4 1) ∷ []) (negsuc 2048 ∷ negsuc 2047 ∷ pos 2047 ∷ pos 2048 ∷ []))
+    is words ((7 ∷ []) ∷ (0 ∷ []) ∷ (0 ∷ []) ∷ (7 ∷ []) ∷ []))
     ∷ []
 
 pub starred-examples : map (λ (e : Example). e .found) table ≡ map (λ (e : Example). e .stated) table
-unfolding table y₀ y₁ y₂ frozen01 frozen123 noneFrozen bitsOf unpacked transform inverse frozen encoded inputOf extracted largest score children liveBy rows first some pastEnd encodeRefusal encodeOutcome extractRefusal extractOutcome
+unfolding table y₀ y₁ y₂ yₘ frozen01 frozen123 noneFrozen bitsOf unpacked transform inverse frozen encoded inputOf extracted largest score children liveBy rows first some pastEnd encodeRefusal encodeOutcome extractRefusal extractOutcome decodeRefusal decodeServed decodeOutcome
 starred-examples = refl

@@ -4,7 +4,8 @@ use mathlib.Core.List.{List, [], _∷_, _++_, map}
 use Prim.Native.Nat.{ℕ, _-_}
 use lib.ListN.{length, replicate}
 use lib.IntN.{ℤ, pos}
-use Rattle.spec.specs.Code.{Code, size, codeTransform, encoded, extracted}
+use Rattle.spec.specs.Code.{Code, codeTransform, encoded, extracted}
+use Rattle.spec.specs.Score.{taken}
 use Rattle.spec.specs.Decoder.{Row, rows}
 use Rattle.spec.specs.Faults.{first, settled}
 use Rattle.spec.specs.Refusals.{Room, room, encodeFaults, extractFaults, decodeFaults}
@@ -76,15 +77,16 @@ decodedRows r rs = decoding (rowCount (length rs)) (lent
     (padded 0 (r .words) (concat (map (λ (x : Row). x .word) rs)))
     (padded (pos 0) (r .scores) (map (λ (x : Row). x .score) rs)))
 
--- a call that is served holds the rows of the paper decoder
+-- a call that is served holds the rows of the paper decoder, which is fed the soft values as they are taken
 unfoldable pub decodeServed : Code → ℕ → ℕ → List ℤ → Room → Decoding
-decodeServed c l p soft r = decodedRows r (rows (codeTransform c) c soft l p)
+decodeServed c l p soft r = decodedRows r (rows (codeTransform c) c (taken soft) l p)
 
 unfoldable pub decodeOutcome : Code → ℕ → ℕ → List ℤ → Lent → Decoding
 decodeOutcome c l p soft x =
     settled (decodeRefusal c l p soft (roomOf x)) (λ k. decoding (refusedBy k) x) (decodeServed c l p soft (roomOf x))
 
--- ---- record reader: m, list size, stop position and frame number, or the refusal number, and the two lent slices
+-- ---- record reader: m, list size, stop position and frame number, or the refusal number, and the two lent slices: the frozen map, and
+-- the soft values as they are taken
 pub data Job : Type 0 where
   job : ℕ → ℕ → ℕ → ℕ → Job
   refusedJob : ℕ → Job
@@ -104,7 +106,7 @@ unfoldable pub readServed : List ℕ → ℕ → ℕ → Reading
 readServed s maps softs = reading
     (job (exponent s) (listSize s) (stopPosition s) (frameNumber s))
     (padded 0 maps (recordMap s))
-    (padded (pos 0) softs (recordSoft s))
+    (padded (pos 0) softs (taken (recordSoft s)))
 
 unfoldable pub readOutcome : List ℕ → List ℕ → List ℤ → Reading
 readOutcome s map soft =

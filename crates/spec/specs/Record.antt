@@ -7,7 +7,7 @@ use lib.Dec.{ltb, eqb}
 use lib.IntN.{ℤ, pos, _-ℤ_}
 use Rattle.spec.specs.Code.{mapBytes}
 use Rattle.spec.specs.Faults.{Fault, fault, outside, some}
-use Rattle.spec.specs.Refusals.{pastEnd, tooLarge, roomFault}
+use Rattle.spec.specs.Refusals.{pastEnd, outOfRange, roomFault}
 
 -- the byte at a place, and numbers of two and four bytes
 abbrev pub byteAt : List ℕ → ℕ → ℕ
@@ -87,7 +87,7 @@ module _ (s : List ℕ) where
       fault 3 (pastEnd positions recordMap)
       ∷ fault 4 (outside 1 32 listSize)
       ∷ fault 5 (ltb positions stopPosition)
-      ∷ fault 7 (some tooLarge recordSoft)
+      ∷ fault 7 (some outOfRange recordSoft)
       ∷ roomFault (mapBytes positions) maps
       ∷ roomFault positions softs
       ∷ []

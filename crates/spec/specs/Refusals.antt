@@ -1,10 +1,11 @@
 -- What each call is refused for, in the order of 01, "Codes for a call not served". Lent outputs count by their lengths.
-use mathlib.Core.Bool.{Bool, not}
+use mathlib.Core.Bool.{Bool, not, _||_}
 use mathlib.Core.List.{List, [], _∷_, _++_}
 use Prim.Native.Nat.{ℕ, _+_, _*_}
 use lib.ListN.{length, drop}
 use lib.Dec.{ltb, eqb}
-use lib.IntN.{ℤ, natAbs}
+use lib.IntN.{ℤ, pos, negsuc}
+use lib.Signed.{ltZ}
 use Rattle.spec.specs.Bits.{unpacked}
 use Rattle.spec.specs.Code.{Code, size, mapBytes, frozen, payloadSize, broken, inputOf}
 use Rattle.spec.specs.Faults.{Fault, fault, outside, some}
@@ -13,9 +14,9 @@ use Rattle.spec.specs.Faults.{Fault, fault, outside, some}
 unfoldable pub pastEnd : ℕ → List ℕ → Bool
 pastEnd n map = some (ltb 0) (drop n (unpacked map))
 
--- a soft value is out of range
-abbrev pub tooLarge : ℤ → Bool
-tooLarge y = ltb 2047 (natAbs y)
+-- a soft value is out of range: below −2,048 or above 2,047
+abbrev pub outOfRange : ℤ → Bool
+outOfRange y = ltZ y (negsuc 2047) || ltZ (pos 2047) y
 
 -- 1 to 3, which every call on a code has
 abbrev pub codeFaults : Code → List Fault
@@ -56,7 +57,7 @@ runFaults n l p soft =
     fault 4 (outside 1 32 l)
     ∷ fault 5 (ltb n p)
     ∷ lengthFault n (length soft)
-    ∷ fault 7 (some tooLarge soft)
+    ∷ fault 7 (some outOfRange soft)
     ∷ []
 
 -- how many words and bytes of tables a decoder call needs

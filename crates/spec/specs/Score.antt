@@ -1,10 +1,20 @@
 -- Correlation and score: 01, "Scores and lists". T is the transform, n the length of its words.
 use mathlib.Core.Bool.{cond}
-use mathlib.Core.List.{List, [], _∷_, _++_}
+use mathlib.Core.List.{List, [], _∷_, _++_, map}
 use Prim.Native.Nat.{ℕ, zero, suc, _-_}
 use lib.ListN.{length}
-use lib.IntN.{ℤ, pos, negℤ, _+ℤ_}
+use lib.Dec.{eqb}
+use lib.IntN.{ℤ, pos, negsuc, negℤ, _+ℤ_}
 use lib.Signed.{leZ}
+
+-- −2,048 is full scale and taken as −2,047 before any correlation: 02, wish 1. negsuc n is −(n + 1).
+abbrev pub saturated : ℤ → ℤ
+saturated (pos n) = pos n
+saturated (negsuc n) = cond (eqb n 2047) (negsuc 2046) (negsuc n)
+
+-- soft values as they are taken
+abbrev pub taken : List ℤ → List ℤ
+taken = map saturated
 
 -- a soft value, negated where the code bit is 1
 abbrev pub signed : ℤ → ℕ → ℤ

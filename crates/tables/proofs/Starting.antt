@@ -14,7 +14,7 @@ use Rattle.spec.specs.Transform.{evens, odds}
 use Rattle.laws.specs.Cost.{magnitude}
 use Rattle.laws.specs.Windows.{at4, op4, F, W3, W4, win-start, base-0}
 use Rattle.laws.specs.Nodes.{odd, node-even, node-odd, nodeSoft, nodePrefix-nil, none-not-even}
-use Rattle.laws.specs.Soft.{fourAt, nodeSoft-bottom, magnitude-range}
+use Rattle.laws.specs.Soft.{fourAt, nodeSoft-bottom}
 use Rattle.laws.specs.Cells.{Cell, blank-good, read3, Same3}
 use Rattle.laws.specs.Bounds.{win-le, magnitude-halves, magnitude-nodeSoft}
 use Rattle.windows.specs.Op.{tabAt, op4w}
@@ -103,7 +103,7 @@ module _ (deep q l h : ℕ) (y : List ℤ) (t₀ : List ℕ) (size : StartSize d
   small : magnitude y < 2 ^ 31
   small =
       let e : 2 ^ suc (suc deep) ≤ 2 ^ 10 = pow-mono {i = suc (suc deep)} {j = 10} (omega (arith, size .deepest)) in
-      omega (arith, magnitude-range y (size .range), size .whole)
+      omega (arith, size .range, size .whole)
 
   pub bottom-fits : (16 * (slotStart q l 0 + q) ≤ length t₀) × (length y ≡ 4 * q) × (q ≤ 256)
   bottom-fits =

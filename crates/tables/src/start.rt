@@ -1,27 +1,32 @@
 // The start, where no bit is decided: the bottom's costs, and the windows of the empty prefix.
 ghost use mathlib.Core.Path.{_≡_};
+ghost use mathlib.Core.Bool.{false};
 ghost use Prim.Native.Nat.{_+_, _*_, _≤_};
 ghost use lib.ListN.{length};
+ghost use Rattle.spec.specs.Score.{taken};
+ghost use Rattle.spec.specs.Faults.{some};
+ghost use Rattle.spec.specs.Refusals.{outOfRange};
 ghost use Rattle.laws.specs.Windows.{F};
 ghost use Rattle.laws.specs.Soft.{fourAt};
 ghost use Rattle.tables.specs.Tab.{slotStart, WroteRows};
 ghost use Rattle.tables.specs.Start.{firstF, StartSize, Started, Untouched};
 use crate::words::place;
+use ranges::taken_at;
 use windows::start::first_costs;
 use windows::start::first_node;
 
-// The costs of the q bottom nodes, to the nodes from dst on.
+// The costs of the q bottom nodes, from the soft values as they are taken, to the nodes from dst on.
 fn lay_costs(t: &mut [u32], soft: &[i16], dst: usize, q: usize)
-    requires { ⌜ (16 * (dst + q) ≤ length (now t)) × (length (now soft) ≡ 4 * q) ⌝ }
-    ensures { λ _. ⌜ WroteRows (λ i. F (fourAt (now (soft .entry)) q i)) (16 * dst) 16 q
+    requires { ⌜ (16 * (dst + q) ≤ length (now t)) × (length (now soft) ≡ 4 * q) × (some outOfRange (now soft) ≡ false) ⌝ }
+    ensures { λ _. ⌜ WroteRows (λ i. F (fourAt (taken (now (soft .entry))) q i)) (16 * dst) 16 q
         (now (t .entry)) (now (t .exit)) ⌝ }
 {
     let mut i = 0;
     while i < q {
-        let a = soft[i];
-        let b = soft[i + q];
-        let c = soft[i + 2 * q];
-        let d = soft[i + 3 * q];
+        let a = taken_at(soft, i);
+        let b = taken_at(soft, i + q);
+        let c = taken_at(soft, i + 2 * q);
+        let d = taken_at(soft, i + 3 * q);
         first_costs(t, 16 * (dst + i), a, b, c, d);
         i += 1;
     }
@@ -53,8 +58,8 @@ fn first_layer(t: &mut [u32], w: usize, l: usize)
 // The bottom's costs, and the windows of the empty prefix of every layer, from the bottom to the top.
 // q is the number of bottom nodes.
 pub fn start(t: &mut [u32], soft: &[i16], deep: usize, q: usize, l: usize, h: usize)
-    requires { ⌜ StartSize deep q l h (now t) (now soft) ⌝ }
-    ensures { λ _. ⌜ Started deep l h (now (soft .entry)) (now (t .exit))
+    requires { ⌜ StartSize deep q l h (now t) (taken (now soft)) × (some outOfRange (now soft) ≡ false) ⌝ }
+    ensures { λ _. ⌜ Started deep l h (taken (now (soft .entry))) (now (t .exit))
         × Untouched deep l h (now (t .entry)) (now (t .exit)) ⌝ }
 {
     lay_costs(t, soft, h, q);

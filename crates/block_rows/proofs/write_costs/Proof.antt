@@ -1,5 +1,6 @@
 use native.Mathlib.Omega.{arith}
 use borrow.Author.Needs.{needs}
+use Rattle.laws.specs.Taken.{length-taken}
 use Rattle.block_rows.proofs.write_costs.Statement.{statement}
 use Rattle.block_rows.proofs.write_costs.Tie as tie
 
@@ -7,7 +8,10 @@ read-costs-requires : tie.Need-read-costs-requires
 read-costs-requires c κs = search needs
 
 magnitude-requires : tie.Need-magnitude-requires
-magnitude-requires c κs = search needs
+magnitude-requires c κs =
+    let s = c .before .before .before .before in
+    let e = length-taken (s .args .soft .now) in
+    (omega (arith, e, s .pre .0 .short), s .pre .1)
 
 write-scores-requires : tie.Need-write-scores-requires
 write-scores-requires c κs =
@@ -15,11 +19,11 @@ write-scores-requires c κs =
     let k = c .before .before .before .read-costs .ensures in
     let e = c .before .before .magnitude .ensures in
     record {
-      small = omega (arith, e .1, s .pre .short);
-      few = s .pre .few;
-      room = s .pre .places;
+      small = omega (arith, e, s .pre .0 .range, s .pre .0 .short);
+      few = s .pre .0 .few;
+      room = s .pre .0 .places;
       there = k .long;
-      below = λ r h. omega (arith, k .are r h, s .pre .below r h, e .0);
+      below = λ r h. omega (arith, k .are r h, s .pre .0 .below r h, e);
     }
 
 same-length : tie.Need-same-length
@@ -28,7 +32,7 @@ same-length c = search needs
 returns : tie.Need-returns
 returns c =
     let s = c .before .before .before .before .before .before .before .before .before in
-    let e = c .before .before .before .before .magnitude .ensures .0 in
+    let e = c .before .before .before .before .magnitude .ensures in
     record {
       costs = c .before .before .before .before .before .read-costs .last .1 .1 .0;
       read = c .before .before .before .before .before .read-costs .ensures;

@@ -1,14 +1,10 @@
 -- `job::read_job` meets its contract: refused, or the map, the soft values and the fields of a record that passed its tests.
 -- Assumes nothing.
 use mathlib.Core.Path.{_≡_, sym, _∙_}
-use Prim.Native.Nat.{_≤_}
 use borrow.Author.Needs.{needs}
 use lib.ListN.{length}
-use Rattle.spec.specs.Code.{mapBytes}
-use Rattle.spec.specs.Record.{positions}
 use Rattle.spec.specs.Outcome.{readRefusal, readServed}
-use Rattle.job_fields.specs.Laid.{Shaped}
-use Rattle.job.specs.Calls.{accepted-record, same-reading, read-refused, read-served}
+use Rattle.job.specs.Calls.{AcceptedRecord, accepted-record, same-reading, read-refused, read-served}
 use Rattle.job.proofs.read_job.Statement.{statement}
 use Rattle.job.proofs.read_job.Tie as tie
 
@@ -24,28 +20,27 @@ returns c =
 abbrev start : tie.Else1 → tie.Start
 start c = c .before .before .before .before
 
--- past the tests: nothing was found, so the record is as long as its fields need and the slices have room for it
+-- past the tests: nothing was found, so the record is good and the slices have room for it
 passed : (c : tie.Else1) → let a = start c .args in 0 ≡ readRefusal (a .bytes .now) (length (a .map .now)) (length (a .soft .now))
 passed c = sym (c .if1 .left) ∙ c .before .record-refusal .ensures
 
-known : (c : tie.Else1) → let a = start c .args in
-    Shaped (a .bytes .now) × (mapBytes (positions (a .bytes .now)) ≤ length (a .map .now)) × (positions (a .bytes .now) ≤ length (a .soft .now))
+known : (c : tie.Else1) → let a = start c .args in AcceptedRecord (a .bytes .now) (length (a .map .now)) (length (a .soft .now))
 known c =
     let a = start c .args in
     accepted-record (a .bytes .now) (length (a .map .now)) (length (a .soft .now)) (passed c)
 
 locate-requires : tie.Need-locate-requires
-locate-requires c κs = known c .0
+locate-requires c κs = known c .shaped
 
 write-map-requires : tie.Need-write-map-requires
 write-map-requires c κs =
     let l = c .before in
-    (l .locate .ensures, known (l .before) .1)
+    (l .locate .ensures, known (l .before) .map-room)
 
 write-soft-requires : tie.Need-write-soft-requires
 write-soft-requires c κs =
     let l = c .before .before .before .before .before in
-    (l .locate .ensures, known (l .before) .2)
+    (l .locate .ensures, known (l .before) .soft-room, known (l .before) .range)
 
 fields-of-requires : tie.Need-fields-of-requires
 fields-of-requires c κs = c .before .before .before .before .before .before .before .locate .ensures

@@ -1,15 +1,15 @@
 -- `job_refusals::lent_refusal` meets its contract: at each `return` the tests that were passed, and the one that was not. Assumes nothing.
 use mathlib.Core.Path.{_≡_, refl, sym, ap, ap₂, _∙_}
-use mathlib.Core.Bool.{Bool, true, false, _||_, true≢false}
+use mathlib.Core.Bool.{Bool, true, false, _||_}
 use mathlib.Core.List.{List, [], _∷_}
 use Prim.Native.Nat.{ℕ}
 use borrow.Author.Needs.{needs}
 use lib.Dec.{ltb}
 use Rattle.spec.specs.Code.{mapBytes}
 use Rattle.spec.specs.Faults.{Fault, fault, some}
-use Rattle.spec.specs.Refusals.{tooLarge}
+use Rattle.spec.specs.Refusals.{outOfRange}
 use Rattle.spec.specs.Record.{positions, softFrom, recordSoft}
-use Rattle.laws.specs.FirstFault.{First, none, here, later, is-first}
+use Rattle.laws.specs.FirstFault.{First, none, here, later, is-first, not-either}
 use Rattle.job_refusals.specs.Conditions.{lentFaults}
 use Rattle.job_refusals.proofs.lent_refusal.Statement.{statement}
 use Rattle.job_refusals.proofs.lent_refusal.Tie as tie
@@ -20,8 +20,7 @@ one-of true b e = here refl
 one-of false b e = later refl (here e)
 
 neither : {k : ℕ} (a b : Bool) → (a || b) ≡ false → First (fault k a ∷ fault k b ∷ []) 0
-neither true b e = absurd (true≢false e)
-neither false b e = later refl (later e none)
+neither a b e = let r = not-either a b e in later (r .0) (later (r .1) none)
 
 abbrev start : tie.After-too-short → tie.Start
 start c = c .before .before .before
@@ -33,35 +32,35 @@ abbrev table : tie.After-too-short → List Fault
 table c = lentFaults (given c) (start c .args .maps) (start c .args .softs)
 
 -- what was tested
-large-is : (c : tie.After-too-short) → c .before .some-too-large .result ≡ some tooLarge (recordSoft (given c))
-large-is c =
+outside-is : (c : tie.After-too-short) → c .before .some-out-of-range .result ≡ some outOfRange (recordSoft (given c))
+outside-is c =
     let w = start c .pre in
-    c .before .some-too-large .ensures ∙ ap (some tooLarge) (ap₂ (softFrom (given c)) (w .soft-begins) (w .n-is))
+    c .before .some-out-of-range .ensures ∙ ap (some outOfRange) (ap₂ (softFrom (given c)) (w .soft-begins) (w .n-is))
 
 short-is : (c : tie.After-too-short) → c .too-short .result ≡ (ltb (start c .args .maps) (mapBytes (positions (given c))) || ltb (start c .args .softs) (positions (given c)))
 short-is c =
     let a = start c .args in
     c .too-short .ensures ∙ ap (λ (n : ℕ). ltb (a .maps) (mapBytes n) || ltb (a .softs) n) (start c .pre .n-is)
 
-some-too-large-requires : tie.Need-some-too-large-requires
-some-too-large-requires c κs = search needs
+some-out-of-range-requires : tie.Need-some-out-of-range-requires
+some-out-of-range-requires c κs = search needs
 
 too-short-requires : tie.Need-too-short-requires
 too-short-requires c κs = search needs
 
 returns : tie.Need-returns
-returns c = is-first (table (c .before)) 7 (here (sym (large-is (c .before)) ∙ c .if1 .taken))
+returns c = is-first (table (c .before)) 7 (here (sym (outside-is (c .before)) ∙ c .if1 .taken))
 
 returns-2 : tie.Need-returns-2
 returns-2 c =
     let t = c .before .before in
-    is-first (table t) 10 (later (sym (large-is t) ∙ c .before .if1 .left) (one-of _ _ (sym (short-is t) ∙ c .if2 .taken)))
+    is-first (table t) 10 (later (sym (outside-is t) ∙ c .before .if1 .left) (one-of _ _ (sym (short-is t) ∙ c .if2 .taken)))
 
 returns-3 : tie.Need-returns-3
 returns-3 c =
     let t = c .before .before in
-    is-first (table t) 0 (later (sym (large-is t) ∙ c .before .if1 .left) (neither _ _ (sym (short-is t) ∙ c .if2 .left)))
+    is-first (table t) 0 (later (sym (outside-is t) ∙ c .before .if1 .left) (neither _ _ (sym (short-is t) ∙ c .if2 .left)))
 
 pub lent-refusal-spec : {M : Type 1} → statement M
 lent-refusal-spec =
-    tie.close (tie.spec some-too-large-requires too-short-requires returns returns-2 returns-3)
+    tie.close (tie.spec some-out-of-range-requires too-short-requires returns returns-2 returns-3)

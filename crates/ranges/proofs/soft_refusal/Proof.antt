@@ -14,18 +14,18 @@ table c = softFaults (c .args .n) (c .args .soft .now)
 returns : tie.Need-returns
 returns c = is-first (table (c .before)) 6 (here (differ _ _ (c .if1 .taken)))
 
-some-too-large-requires : tie.Need-some-too-large-requires
-some-too-large-requires c κs = search needs
+some-out-of-range-requires : tie.Need-some-out-of-range-requires
+some-out-of-range-requires c κs = search needs
 
 returns-2 : tie.Need-returns-2
 returns-2 c =
     let e = c .before .before in
-    is-first (table (e .before)) 7 (later (same _ _ (e .if1 .left)) (here (sym (c .before .some-too-large .ensures) ∙ c .if2 .taken)))
+    is-first (table (e .before)) 7 (later (same _ _ (e .if1 .left)) (here (sym (c .before .some-out-of-range .ensures) ∙ c .if2 .taken)))
 
 returns-3 : tie.Need-returns-3
 returns-3 c =
     let e = c .before .before in
-    is-first (table (e .before)) 0 (later (same _ _ (e .if1 .left)) (later (sym (c .before .some-too-large .ensures) ∙ c .if2 .left) none))
+    is-first (table (e .before)) 0 (later (same _ _ (e .if1 .left)) (later (sym (c .before .some-out-of-range .ensures) ∙ c .if2 .left) none))
 
 pub soft-refusal-spec : {M : Type 1} → statement M
-soft-refusal-spec = tie.close (tie.spec returns some-too-large-requires returns-2 returns-3)
+soft-refusal-spec = tie.close (tie.spec returns some-out-of-range-requires returns-2 returns-3)

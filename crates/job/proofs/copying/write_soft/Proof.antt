@@ -6,6 +6,9 @@ use borrow.Author.Needs.{needs}
 use lib.ListN.{length, take}
 use lib.Seq.{length-take-le}
 use lib.IntN.{pos}
+use Rattle.spec.specs.Score.{taken}
+use Rattle.spec.specs.Faults.{some}
+use Rattle.spec.specs.Refusals.{outOfRange}
 use Rattle.spec.specs.Record.{softFrom}
 use Rattle.spec.specs.Outcome.{padded}
 use Rattle.slices.specs.Fill.{filled-behind}
@@ -28,8 +31,11 @@ slice-aggregate-copy-soft c = sym (front (c .before .before))
 copy-soft-requires : tie.Need-copy-soft-requires
 copy-soft-requires c κs =
     let s = c .before .before in
-    let w = s .pre .0 in
-    (omega (arith, front s, w .small), omega (arith, front s, w .n-is, w .soft-begins, w .shaped .whole))
+    let w = s .pre .0 in (
+      omega (arith, front s, w .small),
+      omega (arith, front s, w .n-is, w .soft-begins, w .shaped .whole),
+      ap (some outOfRange) (ap₂ (softFrom (s .args .bytes .now)) (w .soft-begins) (front s ∙ w .n-is)) ∙ s .pre .2,
+    )
 
 fill-soft-requires : tie.Need-fill-soft-requires
 fill-soft-requires c κs = search needs
@@ -45,7 +51,7 @@ returns c =
     let soft = s .args .soft .now in
     c .before .fill-soft .ensures
     ∙ filled-behind (pos 0) (p .copy-soft .last .1 .1 .0) soft (s .args .at .n) (p .copy-soft .kept .1 .1 .0 ∙ front s) (fits s)
-    ∙ ap (padded (pos 0) (length soft)) (p .copy-soft .ensures ∙ ap₂ (softFrom (s .args .bytes .now)) (w .soft-begins) (front s ∙ w .n-is))
+    ∙ ap (padded (pos 0) (length soft)) (p .copy-soft .ensures ∙ ap taken (ap₂ (softFrom (s .args .bytes .now)) (w .soft-begins) (front s ∙ w .n-is)))
 
 pub write-soft-spec : {M : Type 1} → statement M
 write-soft-spec =

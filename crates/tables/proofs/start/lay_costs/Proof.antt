@@ -1,4 +1,4 @@
-use mathlib.Core.Path.{ap₂, _≡_, refl, ap}
+use mathlib.Core.Path.{_≡_, refl, ap, ap₂, _∙_}
 use mathlib.Core.List.{List, [], _∷_}
 use Prim.Native.Nat.{ℕ, _+_, _-_, _*_, _≤_, _<_}
 use native.Mathlib.Omega.{arith}
@@ -9,6 +9,7 @@ use denote.Ref.{now}
 use mir.Syntax.{w16}
 use mir.Val.{toZ, ofZ}
 use mir.ValLaws.{toZ-ofZ}
+use Rattle.spec.specs.Score.{taken}
 use Rattle.laws.specs.Windows.{F}
 use Rattle.laws.specs.Soft.{fourAt}
 use Rattle.tables.specs.Tab.{WroteRows}
@@ -17,7 +18,7 @@ use Rattle.tables.proofs.start.lay_costs.Statement.{statement}
 use Rattle.tables.proofs.start.lay_costs.Tie as tie
 
 abbrev Inv-loop : tie.InvT-loop
-Inv-loop t₀ soft dst q i₀ t i = (i ≤ q) × WroteRows (λ z. F (fourAt soft q z)) (16 * dst) 16 i t₀ t
+Inv-loop t₀ soft dst q i₀ t i = (i ≤ q) × WroteRows (λ z. F (fourAt (taken soft) q z)) (16 * dst) 16 i t₀ t
 
 abbrev μ-loop : tie.MeasureT-loop
 μ-loop t₀ soft dst q i₀ t i = q - i
@@ -26,48 +27,36 @@ loop-holds : tie.Need-loop-holds Inv-loop μ-loop
 loop-holds c =
     let s = c .before in (
       omega arith,
-      rows-none (λ z. F (fourAt (now (s .args .soft)) (s .args .q) z)) (16 * s .args .dst) 16
+      rows-none (λ z. F (fourAt (taken (now (s .args .soft))) (s .args .q) z)) (16 * s .args .dst) 16
           (now (s .args .t)),
     )
 
-mul-a : tie.Need-mul-a Inv-loop μ-loop
-mul-a c = omega arith
+taken-at-requires : tie.Need-taken-at-requires Inv-loop μ-loop
+taken-at-requires c κs = (omega arith, c .before .before .before .pre .2)
 
-shared-slice-copy-out-a : tie.Need-shared-slice-copy-out-a Inv-loop μ-loop
-shared-slice-copy-out-a c = omega arith
+add-taken-at : tie.Need-add-taken-at Inv-loop μ-loop
+add-taken-at c = omega arith
 
-add-b : tie.Need-add-b Inv-loop μ-loop
-add-b c = omega arith
+taken-at-requires-2 : tie.Need-taken-at-requires-2 Inv-loop μ-loop
+taken-at-requires-2 c κs = (omega arith, c .before .before .before .before .pre .2)
 
-mul-b : tie.Need-mul-b Inv-loop μ-loop
-mul-b c = omega arith
+mul-taken-at : tie.Need-mul-taken-at Inv-loop μ-loop
+mul-taken-at c = omega arith
 
-shared-slice-copy-out-b : tie.Need-shared-slice-copy-out-b Inv-loop μ-loop
-shared-slice-copy-out-b c = omega arith
+add-taken-at-2 : tie.Need-add-taken-at-2 Inv-loop μ-loop
+add-taken-at-2 c = omega arith
 
-mul-c : tie.Need-mul-c Inv-loop μ-loop
-mul-c c = omega arith
+taken-at-requires-3 : tie.Need-taken-at-requires-3 Inv-loop μ-loop
+taken-at-requires-3 c κs = (omega arith, c .before .before .before .before .before .pre .2)
 
-add-c : tie.Need-add-c Inv-loop μ-loop
-add-c c = omega arith
+mul-taken-at-2 : tie.Need-mul-taken-at-2 Inv-loop μ-loop
+mul-taken-at-2 c = omega arith
 
-mul-c-2 : tie.Need-mul-c-2 Inv-loop μ-loop
-mul-c-2 c = omega arith
+add-taken-at-3 : tie.Need-add-taken-at-3 Inv-loop μ-loop
+add-taken-at-3 c = omega arith
 
-shared-slice-copy-out-c : tie.Need-shared-slice-copy-out-c Inv-loop μ-loop
-shared-slice-copy-out-c c = omega arith
-
-mul-d : tie.Need-mul-d Inv-loop μ-loop
-mul-d c = omega arith
-
-add-d : tie.Need-add-d Inv-loop μ-loop
-add-d c = omega arith
-
-mul-d-2 : tie.Need-mul-d-2 Inv-loop μ-loop
-mul-d-2 c = omega arith
-
-shared-slice-copy-out-d : tie.Need-shared-slice-copy-out-d Inv-loop μ-loop
-shared-slice-copy-out-d c = omega arith
+taken-at-requires-4 : tie.Need-taken-at-requires-4 Inv-loop μ-loop
+taken-at-requires-4 c κs = (omega arith, c .before .before .before .before .before .before .pre .2)
 
 add-first-costs : tie.Need-add-first-costs Inv-loop μ-loop
 add-first-costs c = omega arith
@@ -88,14 +77,17 @@ loop-again : tie.Need-loop-again Inv-loop μ-loop
 loop-again c =
     let s = c .before .before .before .before .before .before .before .before .before .before .before in
     let l = c .before .before .before .before .before .before .before .before .before .loop in
-    let Y : List ℤ = now (s .args .soft) in
+    let Y : List ℤ = taken (now (s .args .soft)) in
     let q : ℕ = s .args .q in
-    let back : (y : ℤ) → mag y < 32768 → toZ w16 (ofZ w16 y) ≡ y = λ y h. toZ-ofZ w16 y (record { sfits = h }) in
-    let e = ap₂ _∷_ (back (getD Y (l .i) (pos 0))
-    (c .before .before .before .before .before .before .before .a .given))
-    (ap₂ _∷_ (back (getD Y (l .i + q) (pos 0)) (c .before .before .before .before .before .before .b .given))
-    (ap₂ _∷_ (back (getD Y (l .i + 2 * q) (pos 0)) (c .before .before .before .before .before .c .given))
-    (ap₂ _∷_ (back (getD Y (l .i + 3 * q) (pos 0)) (c .before .before .before .before .d .given))
+    let back : (y z : ℤ) → mag y < 32768 → y ≡ z → toZ w16 (ofZ w16 y) ≡ z = λ y z h e. toZ-ofZ w16 y (record { sfits = h }) ∙ e in
+    let a = c .before .before .before .before .before .before .before .taken-at in
+    let b = c .before .before .before .before .before .before .taken-at2 in
+    let u = c .before .before .before .before .before .taken-at3 in
+    let v = c .before .before .before .before .taken-at4 in
+    let e = ap₂ _∷_ (back (a .result) (getD Y (l .i) (pos 0)) (a .ok) (a .ensures))
+    (ap₂ _∷_ (back (b .result) (getD Y (l .i + q) (pos 0)) (b .ok) (b .ensures))
+    (ap₂ _∷_ (back (u .result) (getD Y (l .i + 2 * q) (pos 0)) (u .ok) (u .ensures))
+    (ap₂ _∷_ (back (v .result) (getD Y (l .i + 3 * q) (pos 0)) (v .ok) (v .ensures))
     (refl {a = []})))) in (
       omega arith,
       rows-more (λ z. F (fourAt Y q z)) (16 * s .args .dst) 16 (now (s .args .t)) _ (l .i)
@@ -119,19 +111,15 @@ lay-costs-spec =
     Inv-loop
     μ-loop
     loop-holds
-    mul-a
-    shared-slice-copy-out-a
-    add-b
-    mul-b
-    shared-slice-copy-out-b
-    mul-c
-    add-c
-    mul-c-2
-    shared-slice-copy-out-c
-    mul-d
-    add-d
-    mul-d-2
-    shared-slice-copy-out-d
+    taken-at-requires
+    add-taken-at
+    taken-at-requires-2
+    mul-taken-at
+    add-taken-at-2
+    taken-at-requires-3
+    mul-taken-at-2
+    add-taken-at-3
+    taken-at-requires-4
     add-first-costs
     mul-first-costs
     first-costs-requires

@@ -1,4 +1,4 @@
--- `ranges::some_too_large` meets its contract: what is left to scan decides. Assumes nothing.
+-- `ranges::some_out_of_range` meets its contract: what is left to scan decides. Assumes nothing.
 use mathlib.Core.Path.{_≡_, refl, sym, ap, _∙_}
 use mathlib.Core.Bool.{Bool, true, false, _||_}
 use mathlib.Core.List.{List}
@@ -12,37 +12,37 @@ use lib.IntN.{ℤ, pos}
 use mir.Syntax.{w16}
 use mir.ValLaws.{toZ-ofZ}
 use Rattle.spec.specs.Faults.{some}
-use Rattle.spec.specs.Refusals.{tooLarge}
-use Rattle.ranges.proofs.some_too_large.Statement.{statement}
-use Rattle.ranges.proofs.some_too_large.Tie as tie
+use Rattle.spec.specs.Refusals.{outOfRange}
+use Rattle.ranges.proofs.some_out_of_range.Statement.{statement}
+use Rattle.ranges.proofs.some_out_of_range.Tie as tie
 
 abbrev Inv-loop : tie.InvT-loop
-Inv-loop soft i₀ i = (i ≤ length soft) × (some tooLarge soft ≡ some tooLarge (drop i soft))
+Inv-loop soft i₀ i = (i ≤ length soft) × (some outOfRange soft ≡ some outOfRange (drop i soft))
 
 abbrev μ-loop : tie.MeasureT-loop
 μ-loop soft i₀ i = length soft - i
 
-at : (y : List ℤ) (i : ℕ) (b : Bool) → i < length y → b ≡ tooLarge (getD y i (pos 0)) → some tooLarge (drop i y) ≡ (b || some tooLarge (drop (i + 1) y))
+at : (y : List ℤ) (i : ℕ) (b : Bool) → i < length y → b ≡ outOfRange (getD y i (pos 0)) → some outOfRange (drop i y) ≡ (b || some outOfRange (drop (i + 1) y))
 unfolding some
 at y i b h e = rw (add-one i, drop-cons y i (pos 0), e)
 
 -- the value that was tested
-tested : (c : tie.After-too-large Inv-loop μ-loop) → c .too-large .result ≡ tooLarge (getD (c .before .before .before .before .args .soft .now) (c .before .before .before .loop .i) (pos 0))
+tested : (c : tie.After-out-of-range Inv-loop μ-loop) → c .out-of-range .result ≡ outOfRange (getD (c .before .before .before .before .args .soft .now) (c .before .before .before .loop .i) (pos 0))
 tested c =
     let y = getD (c .before .before .before .before .args .soft .now) (c .before .before .before .loop .i) (pos 0) in
-    c .too-large .ensures ∙ ap tooLarge (toZ-ofZ w16 y (record { sfits = c .before .too-large-arg .given }))
+    c .out-of-range .ensures ∙ ap outOfRange (toZ-ofZ w16 y (record { sfits = c .before .out-of-range-arg .given }))
 
 loop-holds : tie.Need-loop-holds Inv-loop μ-loop
 loop-holds c = (omega arith, refl)
 
-mul-too-large : tie.Need-mul-too-large Inv-loop μ-loop
-mul-too-large c = search needs
+mul-out-of-range : tie.Need-mul-out-of-range Inv-loop μ-loop
+mul-out-of-range c = search needs
 
-shared-slice-copy-out-too-large : tie.Need-shared-slice-copy-out-too-large Inv-loop μ-loop
-shared-slice-copy-out-too-large c = search needs
+shared-slice-copy-out-out-of-range : tie.Need-shared-slice-copy-out-out-of-range Inv-loop μ-loop
+shared-slice-copy-out-out-of-range c = search needs
 
-too-large-requires : tie.Need-too-large-requires Inv-loop μ-loop
-too-large-requires c κs = search needs
+out-of-range-requires : tie.Need-out-of-range-requires Inv-loop μ-loop
+out-of-range-requires c κs = search needs
 
 returns : tie.Need-returns Inv-loop μ-loop
 returns c =
@@ -65,18 +65,18 @@ loop-again c =
 returns-2 : tie.Need-returns-2 Inv-loop μ-loop
 unfolding some
 returns-2 c =
-    sym (c .before .loop .inv .1 ∙ ap (some tooLarge) (drop-of-length-le _ (c .loop-test .left)))
+    sym (c .before .loop .inv .1 ∙ ap (some outOfRange) (drop-of-length-le _ (c .loop-test .left)))
 
-pub some-too-large-spec : {M : Type 1} → statement M
-some-too-large-spec =
+pub some-out-of-range-spec : {M : Type 1} → statement M
+some-out-of-range-spec =
     tie.close
     (tie.spec
     Inv-loop
     μ-loop
     loop-holds
-    mul-too-large
-    shared-slice-copy-out-too-large
-    too-large-requires
+    mul-out-of-range
+    shared-slice-copy-out-out-of-range
+    out-of-range-requires
     returns
     add-i
     loop-less

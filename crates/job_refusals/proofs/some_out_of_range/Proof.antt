@@ -1,4 +1,4 @@
--- `job_refusals::some_too_large` meets its contract: the values that are left decide. Assumes nothing.
+-- `job_refusals::some_out_of_range` meets its contract: the values that are left decide. Assumes nothing.
 use mathlib.Core.Path.{_≡_, sym, ap, ap₂, _∙_}
 use mathlib.Core.Bool.{Bool, true, false, _||_}
 use mathlib.Core.List.{List}
@@ -8,14 +8,14 @@ use borrow.Author.Needs.{needs}
 use mir.Syntax.{w16}
 use mir.ValLaws.{toZ-ofZ}
 use Rattle.spec.specs.Faults.{some}
-use Rattle.spec.specs.Refusals.{tooLarge}
+use Rattle.spec.specs.Refusals.{outOfRange}
 use Rattle.spec.specs.Record.{twoAt, signed16, softFrom}
-use Rattle.job_refusals.proofs.some_too_large.Statement.{statement}
-use Rattle.job_refusals.proofs.some_too_large.Tie as tie
+use Rattle.job_refusals.proofs.some_out_of_range.Statement.{statement}
+use Rattle.job_refusals.proofs.some_out_of_range.Tie as tie
 
 -- value i of n from a place, or one of those behind it
 ahead : (s : List ℕ) (at n i : ℕ) → i < n
-    → some tooLarge (softFrom s (at + 2 * i) (n - i)) ≡ (tooLarge (signed16 (twoAt s (at + 2 * i))) || some tooLarge (softFrom s (at + 2 * (i + 1)) (n - (i + 1))))
+    → some outOfRange (softFrom s (at + 2 * i) (n - i)) ≡ (outOfRange (signed16 (twoAt s (at + 2 * i))) || some outOfRange (softFrom s (at + 2 * (i + 1)) (n - (i + 1))))
 unfolding softFrom some
 ahead s at n i h =
     let e : n - i ≡ suc (n - (i + 1)) = omega arith in
@@ -23,7 +23,7 @@ ahead s at n i h =
     rw (e, f)
 
 abbrev Inv-loop : tie.InvT-loop
-Inv-loop bytes at n i₀ i = (i ≤ n) × (some tooLarge (softFrom bytes at n) ≡ some tooLarge (softFrom bytes (at + 2 * i) (n - i)))
+Inv-loop bytes at n i₀ i = (i ≤ n) × (some outOfRange (softFrom bytes at n) ≡ some outOfRange (softFrom bytes (at + 2 * i) (n - i)))
 
 abbrev μ-loop : tie.MeasureT-loop
 μ-loop bytes at n i₀ i = n - i
@@ -32,27 +32,27 @@ abbrev start : tie.At-loop Inv-loop μ-loop → tie.Start Inv-loop μ-loop
 start c = c .before .before
 
 -- one value more: it is out of range, or what is behind it decides
-turn : (c : tie.After-too-large Inv-loop μ-loop) (b : Bool) → c .too-large .result ≡ b
+turn : (c : tie.After-out-of-range Inv-loop μ-loop) (b : Bool) → c .out-of-range .result ≡ b
     → let l = c .before .before .before in
     let a = start l .args in
-    some tooLarge (softFrom (a .bytes .now) (a .at) (a .n))
-    ≡ (b || some tooLarge (softFrom (a .bytes .now) (a .at + 2 * (l .loop .i + 1)) (a .n - (l .loop .i + 1))))
+    some outOfRange (softFrom (a .bytes .now) (a .at) (a .n))
+    ≡ (b || some outOfRange (softFrom (a .bytes .now) (a .at + 2 * (l .loop .i + 1)) (a .n - (l .loop .i + 1))))
 turn c b e =
     let l = c .before .before .before in
     let a = start l .args in
     let i = l .loop .i in
     let v = c .before .soft-value in
     let value = toZ-ofZ w16 (v .result) (record { sfits = v .ok }) ∙ v .ensures in
-    let tested : tooLarge (signed16 (twoAt (a .bytes .now) (a .at + 2 * i))) ≡ b = sym (c .too-large .ensures ∙ ap tooLarge value) ∙ e in
+    let tested : outOfRange (signed16 (twoAt (a .bytes .now) (a .at + 2 * i))) ≡ b = sym (c .out-of-range .ensures ∙ ap outOfRange value) ∙ e in
     l .loop .inv .1 ∙ ahead (a .bytes .now) (a .at) (a .n) i (c .before .before .loop-test .taken)
-    ∙ ap (λ (b : Bool). b || some tooLarge (softFrom (a .bytes .now) (a .at + 2 * (i + 1)) (a .n - (i + 1)))) tested
+    ∙ ap (λ (b : Bool). b || some outOfRange (softFrom (a .bytes .now) (a .at + 2 * (i + 1)) (a .n - (i + 1)))) tested
 
 loop-holds : tie.Need-loop-holds Inv-loop μ-loop
 loop-holds c =
     let a = c .before .args in
     let e : a .at ≡ a .at + 2 * 0 = omega arith in
     let f : a .n ≡ a .n - 0 = omega arith in
-    (omega arith, ap₂ (λ (at n : ℕ). some tooLarge (softFrom (a .bytes .now) at n)) e f)
+    (omega arith, ap₂ (λ (at n : ℕ). some outOfRange (softFrom (a .bytes .now) at n)) e f)
 
 mul-soft-value : tie.Need-mul-soft-value Inv-loop μ-loop
 mul-soft-value c = search needs
@@ -63,8 +63,8 @@ add-soft-value c = search needs
 soft-value-requires : tie.Need-soft-value-requires Inv-loop μ-loop
 soft-value-requires c κs = search needs
 
-too-large-requires : tie.Need-too-large-requires Inv-loop μ-loop
-too-large-requires c κs = search needs
+out-of-range-requires : tie.Need-out-of-range-requires Inv-loop μ-loop
+out-of-range-requires c κs = search needs
 
 returns : tie.Need-returns Inv-loop μ-loop
 returns c = sym (turn (c .before) true (c .if1 .taken))
@@ -84,10 +84,10 @@ returns-2 c =
     let l = c .before in
     let a = start l .args in
     let e : a .n - l .loop .i ≡ 0 = omega (arith, c .loop-test .left) in
-    sym (l .loop .inv .1 ∙ ap (λ (k : ℕ). some tooLarge (softFrom (a .bytes .now) (a .at + 2 * l .loop .i) k)) e)
+    sym (l .loop .inv .1 ∙ ap (λ (k : ℕ). some outOfRange (softFrom (a .bytes .now) (a .at + 2 * l .loop .i) k)) e)
 
-pub some-too-large-spec : {M : Type 1} → statement M
-some-too-large-spec =
+pub some-out-of-range-spec : {M : Type 1} → statement M
+some-out-of-range-spec =
     tie.close
     (tie.spec
     Inv-loop
@@ -96,7 +96,7 @@ some-too-large-spec =
     mul-soft-value
     add-soft-value
     soft-value-requires
-    too-large-requires
+    out-of-range-requires
     returns
     add-i
     loop-less
