@@ -1,9 +1,13 @@
 -- What the calls that write the rows of a decoded block take and leave.
 use mathlib.Core.Path.{_≡_}
+use mathlib.Core.Bool.{false}
 use mathlib.Core.List.{List}
 use Prim.Native.Nat.{ℕ, _+_, _*_, _<_, _≤_, _^_}
 use lib.ListN.{length, drop, getD}
 use lib.IntN.{ℤ}
+use Rattle.spec.specs.Score.{taken}
+use Rattle.spec.specs.Faults.{some}
+use Rattle.spec.specs.Refusals.{outOfRange}
 use Rattle.laws.specs.Cost.{magnitude}
 use Rattle.live.specs.declared.Live.{Live}
 use Rattle.live.specs.Entries.{costOf}
@@ -34,16 +38,16 @@ pub record CostsRead (count : ℕ) (code costs : List ℕ) : Type 0 where
   pub long : length costs ≡ 32
   pub are : (r : ℕ) → r < count → getD costs r 0 ≡ costOf (getD code r 0)
 
--- y are the soft values as they are taken; no cost of the entries is above the sum of their magnitudes
-pub record CostsFit (room : ℕ) (y : List ℤ) (s : Live) : Type 0 where
-  pub short : length y ≤ 1024
-  pub range : magnitude y ≤ 2047 * length y
+-- no cost of the entries is above the sum of the magnitudes of the soft values as they are taken
+pub record CostsFit (room : ℕ) (soft : List ℤ) (s : Live) : Type 0 where
+  pub short : length soft ≤ 1024
+  pub range : some outOfRange soft ≡ false
   pub few : s .count ≤ 32
   pub places : s .count ≤ room
-  pub below : (r : ℕ) → r < s .count → costOf (getD (s .code) r 0) ≤ magnitude y
+  pub below : (r : ℕ) → r < s .count → costOf (getD (s .code) r 0) ≤ magnitude (taken soft)
 
 -- the scores of the entries of s
-pub record CostsWritten (room : ℕ) (y : List ℤ) (s : Live) (scores : List ℤ) : Type 0 where
+pub record CostsWritten (room : ℕ) (soft : List ℤ) (s : Live) (scores : List ℤ) : Type 0 where
   pub costs : List ℕ
   pub read : CostsRead (s .count) (s .code) costs
-  pub scores-left : ScoresWritten (magnitude y) (s .count) room costs scores
+  pub scores-left : ScoresWritten (magnitude (taken soft)) (s .count) room costs scores

@@ -1,11 +1,7 @@
 // The rows of a decoded block in the three lent outputs, from its history and its live list.
 ghost use mathlib.Core.Path.{_≡_};
-ghost use mathlib.Core.Bool.{false};
 ghost use Prim.Native.Nat.{_≤_};
 ghost use lib.ListN.{length};
-ghost use Rattle.spec.specs.Score.{taken};
-ghost use Rattle.spec.specs.Faults.{some};
-ghost use Rattle.spec.specs.Refusals.{outOfRange};
 ghost use Rattle.block_rows.specs.BlockRows.{CostsRead, BitsWritten, BitsFit, CostsWritten, CostsFit};
 use live::Live;
 use live::entry_cost;
@@ -50,8 +46,8 @@ pub fn write_bits(
 
 // The scores of the entries of s.
 pub fn write_costs(scores: &mut [i32], soft: &[i16], s: Live)
-    requires { ⌜ CostsFit (length (now scores)) (taken (now soft)) s × (some outOfRange (now soft) ≡ false) ⌝ }
-    ensures { λ _. ⌜ CostsWritten (length (now (scores .entry))) (taken (now (soft .entry))) s (now (scores .exit)) ⌝ }
+    requires { ⌜ CostsFit (length (now scores)) (now soft) s ⌝ }
+    ensures { λ _. ⌜ CostsWritten (length (now (scores .entry))) (now (soft .entry)) s (now (scores .exit)) ⌝ }
 {
     let code = s.code;
     let count = s.count;

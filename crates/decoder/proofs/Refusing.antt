@@ -1,6 +1,5 @@
 -- A call whose refusals do not apply has what it takes to be served.
 use mathlib.Core.Path.{_≡_, refl, sym, _∙_}
-use mathlib.Core.Bool.{false}
 use mathlib.Core.List.{List}
 use Prim.Native.Nat.{ℕ, _*_, _/_, _≤_, _^_}
 use native.Mathlib.Omega.{arith}
@@ -8,18 +7,15 @@ use borrow.Author.Tests.{ltb-false}
 use lib.ListN.{length}
 use lib.IntN.{ℤ}
 use Rattle.spec.specs.Code.{code}
-use Rattle.spec.specs.Score.{taken}
-use Rattle.spec.specs.Faults.{first, some}
-use Rattle.spec.specs.Refusals.{Room, outOfRange, decodeFaults, numberRoom, byteRoom}
+use Rattle.spec.specs.Faults.{first}
+use Rattle.spec.specs.Refusals.{Room, decodeFaults, numberRoom, byteRoom}
 use Rattle.spec.specs.Outcome.{Lent, Decoding, decoding, refusedBy, roomOf, decodeRefusal, decodeServed, decodeOutcome}
 use Rattle.laws.specs.FirstFault.{First, none, later, of-first, inside-of, same-of, settled-refused, settled-served}
-use Rattle.laws.specs.DecodeCall.{soft-in-range}
-use Rattle.laws.specs.Taken.{length-taken, magnitude-range}
 use Rattle.laws.specs.Accepted.{accepted-of}
 use Rattle.decoder.specs.Serving.{ServeFits, Served}
 
 unrefused : (m l p n h : ℕ) (map : List ℕ) (soft : List ℤ) (r : Room) → n ≡ 2 ^ m → h ≡ n / 2 * l
-    → First (decodeFaults (code m map) l p soft r) 0 → ServeFits m l p n h map (taken soft) r
+    → First (decodeFaults (code m map) l p soft r) 0 → ServeFits m l p n h map soft r
 unrefused m l p n h map soft r en eh
     (later a (later b (later d (later e₄ (later e₅ (later e₆ (later e₇ (later e₈ (later e₉ (later x (later y (later z none)))))))))))) =
     let q = inside-of 1 32 l e₄ in
@@ -28,8 +24,8 @@ unrefused m l p n h map soft r en eh
       some-path = q .0;
       list = q .1;
       stop = omega (arith, ltb-false (2 ^ m) p e₅);
-      long = length-taken soft ∙ same-of (length soft) (2 ^ m) e₆ ∙ sym en;
-      range = omega (arith, length-taken soft, magnitude-range soft e₇);
+      long = same-of (length soft) (2 ^ m) e₆ ∙ sym en;
+      range = e₇;
       size-is = en;
       half-is = eh;
       numbers = rw en (ltb-false (r .numbers) (numberRoom (2 ^ m) l) e₈);
@@ -40,11 +36,8 @@ unrefused m l p n h map soft r en eh
     }
 
 module _ (m l p : ℕ) (map : List ℕ) (soft : List ℤ) (k : ℕ) (r : Room) (found : k ≡ first (decodeFaults (code m map) l p soft r)) where
-  pub serve-fits : k ≡ 0 → (n h : ℕ) → n ≡ 2 ^ m → h ≡ n / 2 * l → ServeFits m l p n h map (taken soft) r
+  pub serve-fits : k ≡ 0 → (n h : ℕ) → n ≡ 2 ^ m → h ≡ n / 2 * l → ServeFits m l p n h map soft r
   serve-fits z n h en eh = unrefused m l p n h map soft r en eh (of-first (decodeFaults (code m map) l p soft r) 0 (sym z ∙ found))
-
-  pub in-range : k ≡ 0 → some outOfRange soft ≡ false
-  in-range z = soft-in-range (code m map) l p soft r (of-first (decodeFaults (code m map) l p soft r) 0 (sym z ∙ found))
 
   pub small-exponent : k ≡ 0 → m ≤ 10
   small-exponent z = serve-fits z (2 ^ m) (2 ^ m / 2 * l) refl refl .accepts .high
@@ -54,7 +47,7 @@ module _ (m l p : ℕ) (map : List ℕ) (soft : List ℤ) (k : ℕ) (x : Lent) (
   unfolding decodeOutcome decodeRefusal
   refused-call n = settled-refused (λ j. decoding (refusedBy j) x) (decodeServed (code m map) l p soft (roomOf x)) k (first (decodeFaults (code m map) l p soft (roomOf x))) found n
 
-  pub served-call : k ≡ 0 → (o : Decoding) (count : ℕ) → Served o count (code m map) l p (taken soft) (roomOf x) → o ≡ decodeOutcome (code m map) l p soft x
-  unfolding decodeOutcome decodeRefusal decodeServed
+  pub served-call : k ≡ 0 → (o : Decoding) (count : ℕ) → Served o count (code m map) l p soft (roomOf x) → o ≡ decodeOutcome (code m map) l p soft x
+  unfolding decodeOutcome decodeRefusal
   served-call z o count s =
       s .is ∙ settled-served (λ j. decoding (refusedBy j) x) (decodeServed (code m map) l p soft (roomOf x)) (first (decodeFaults (code m map) l p soft (roomOf x))) (sym z ∙ found)

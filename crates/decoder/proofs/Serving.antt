@@ -21,7 +21,7 @@ pub zeroed : (s : List ℕ) → filledFrom 0 0 s ≡ replicate (length s) 0
 unfolding filledFrom
 zeroed s = let e : length s - 0 ≡ length s = omega arith in ap (λ (k : ℕ). replicate k 0) e
 
-module _ (m l p n h : ℕ) (map : List ℕ) (y : List ℤ) (r : Room) (f : ServeFits m l p n h map y r) where
+module _ (m l p n h : ℕ) (map : List ℕ) (soft : List ℤ) (r : Room) (f : ServeFits m l p n h map soft r) where
   pub exponent : m ≡ suc (suc (m - 2))
   exponent = omega (arith, f .accepts .low)
 
@@ -68,7 +68,7 @@ module _ (m l p n h : ℕ) (map : List ℕ) (y : List ℤ) (r : Room) (f : Serve
   flags-there : n ≤ 8 * length map
   flags-there = omega (arith, enough-bits (2 ^ m) map (f .accepts .bytes), f .size-is)
 
-  pub start-fits : (t : List ℕ) → r .numbers ≤ length t → StartSize (m - 2) (n / 4) l h t y
+  pub start-fits : (t : List ℕ) → r .numbers ≤ length t → StartSize (m - 2) (n / 4) l h t soft
   start-fits t e = record {
     deepest = sizes-of .deepest;
     bottom = omega (arith, whole);

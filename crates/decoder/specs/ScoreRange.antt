@@ -63,7 +63,7 @@ size-largest T (suc k) y w =
     size-larger (largest T k y (w ++ 0 ∷ [])) (largest T k y (w ++ 1 ∷ [])) (magnitude y)
     (size-largest T k y (w ++ 0 ∷ [])) (size-largest T k y (w ++ 1 ∷ []))
 
--- The score of every prefix lies within ±2,047·n, where there are n soft values and none is out of range, −2,048 too.
+-- The score of every prefix lies within ±2,047·n, for n soft values in range, as they are taken.
 pub score-in-range : (c : Code) (y : List ℤ) (w : List ℕ) → length y ≡ size c → some outOfRange y ≡ false
     → InRange (size c) (score (codeTransform c) (size c) (taken y) w)
 unfolding score

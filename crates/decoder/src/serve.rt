@@ -1,12 +1,9 @@
 // A call that is served: the live list at the stop position, its rows, and the tables set to 0.
 ghost use mathlib.Core.Path.{_≡_};
-ghost use mathlib.Core.Bool.{false};
 ghost use Prim.Native.Nat.{_*_};
 ghost use lib.ListN.{length, replicate};
 ghost use Rattle.spec.specs.Code.{code};
-ghost use Rattle.spec.specs.Score.{taken};
-ghost use Rattle.spec.specs.Faults.{some};
-ghost use Rattle.spec.specs.Refusals.{outOfRange, room};
+ghost use Rattle.spec.specs.Refusals.{room};
 ghost use Rattle.spec.specs.Outcome.{decoding, rowCount, lent};
 ghost use Rattle.decoder.specs.Serving.{ServeFits, Stopped, Served};
 use block_rows::write_bits;
@@ -29,8 +26,8 @@ fn decode_list(
     n: usize,
     h: usize,
 ) -> Live
-    requires { ⌜ ServeFits m l p n h (now map) (taken (now soft)) (room (length (now t)) (length (now b)) (n * l) (n * l) l) × (some outOfRange (now soft) ≡ false) ⌝ }
-    ensures { λ r. ⌜ Stopped m l p h (now (map .entry)) (taken (now (soft .entry))) r (now (t .exit)) (now (b .exit)) ⌝ }
+    requires { ⌜ ServeFits m l p n h (now map) (now soft) (room (length (now t)) (length (now b)) (n * l) (n * l) l) ⌝ }
+    ensures { λ r. ⌜ Stopped m l p h (now (map .entry)) (now (soft .entry)) r (now (t .exit)) (now (b .exit)) ⌝ }
 {
     let deep = (m - 2) as usize;
     let q = n / 4;
@@ -62,9 +59,9 @@ pub(crate) fn serve(
     n: usize,
     h: usize,
 ) -> usize
-    requires { ⌜ ServeFits m l p n h (now map) (taken (now soft)) (room (length (now t)) (length (now b)) (length (now inputs)) (length (now words)) (length (now scores))) × (some outOfRange (now soft) ≡ false) ⌝ }
+    requires { ⌜ ServeFits m l p n h (now map) (now soft) (room (length (now t)) (length (now b)) (length (now inputs)) (length (now words)) (length (now scores))) ⌝ }
     ensures { λ r. ⌜ Served (decoding (rowCount r) (lent (now (t .exit)) (now (b .exit)) (now (inputs .exit)) (now (words .exit)) (now (scores .exit)))) r
-        (code m (now (map .entry))) l p (taken (now (soft .entry))) (room (length (now (t .entry))) (length (now (b .entry))) (length (now (inputs .entry))) (length (now (words .entry))) (length (now (scores .entry)))) ⌝ }
+        (code m (now (map .entry))) l p (now (soft .entry)) (room (length (now (t .entry))) (length (now (b .entry))) (length (now (inputs .entry))) (length (now (words .entry))) (length (now (scores .entry)))) ⌝ }
 {
     let s = decode_list(m, map, l, p, soft, t, b, n, h);
     let rows = s.count;

@@ -1,6 +1,5 @@
 -- A decoder call that is not refused: what is known of its arguments, and what it comes to.
 use mathlib.Core.Path.{_≡_, sym}
-use mathlib.Core.Bool.{false}
 use mathlib.Core.List.{List}
 use Prim.Native.Nat.{ℕ, _≤_}
 use native.Mathlib.Omega.{arith}
@@ -10,8 +9,7 @@ use lib.IntN.{ℤ}
 use Rattle.spec.specs.Code.{Code, size, mapBytes, codeTransform}
 use Rattle.spec.specs.Score.{taken}
 use Rattle.spec.specs.Decoder.{rows}
-use Rattle.spec.specs.Faults.{some}
-use Rattle.spec.specs.Refusals.{Room, outOfRange, decodeFaults}
+use Rattle.spec.specs.Refusals.{Room, decodeFaults}
 use Rattle.spec.specs.Outcome.{refusedBy, Lent, roomOf, decoding, decodeRefusal, decodeServed, decodeOutcome}
 use Rattle.spec.specs.RowCount.{row-count}
 use Rattle.laws.specs.FirstFault.{First, later, of-first, inside-of, same-of, settled-served}
@@ -22,9 +20,6 @@ module _ (c : Code) (l p : ℕ) (soft : List ℤ) (r : Room) where
 
   pub stop-in-range : First (decodeFaults c l p soft r) 0 → p ≤ size c
   stop-in-range (later a (later b (later d (later e (later h f))))) = ltb-false (size c) p h
-
-  pub soft-in-range : First (decodeFaults c l p soft r) 0 → some outOfRange soft ≡ false
-  soft-in-range (later a (later b (later d (later e (later h (later i (later j f))))))) = j
 
   map-right : First (decodeFaults c l p soft r) 0 → length (c .map) ≡ mapBytes (size c)
   map-right (later a (later b f)) = same-of (length (c .map)) (mapBytes (size c)) b

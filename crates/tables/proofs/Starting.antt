@@ -11,10 +11,12 @@ use lib.IntN.{ℤ}
 use lib.Pow.{pow-mono}
 use Rattle.spec.specs.Bits.{nil}
 use Rattle.spec.specs.Transform.{evens, odds}
+use Rattle.spec.specs.Score.{taken}
 use Rattle.laws.specs.Cost.{magnitude}
 use Rattle.laws.specs.Windows.{at4, op4, F, W3, W4, win-start, base-0}
 use Rattle.laws.specs.Nodes.{odd, node-even, node-odd, nodeSoft, nodePrefix-nil, none-not-even}
 use Rattle.laws.specs.Soft.{fourAt, nodeSoft-bottom}
+use Rattle.laws.specs.Taken.{length-taken, magnitude-range}
 use Rattle.laws.specs.Cells.{Cell, blank-good, read3, Same3}
 use Rattle.laws.specs.Bounds.{win-le, magnitude-halves, magnitude-nodeSoft}
 use Rattle.windows.specs.Op.{tabAt, op4w}
@@ -92,7 +94,10 @@ pub record Starting (deep l h d w : ℕ) (y : List ℤ) (t₀ t : List ℕ) : Ty
   pub windows : FirstFrom deep d l y t
   pub rest : Untouched deep l h t₀ t
 
-module _ (deep q l h : ℕ) (y : List ℤ) (t₀ : List ℕ) (size : StartSize deep q l h t₀ y) where
+module _ (deep q l h : ℕ) (given : List ℤ) (t₀ : List ℕ) (size : StartSize deep q l h t₀ given) where
+  abbrev y : List ℤ
+  y = taken given
+
   -- a layer's windows end below the next layer's, and below the bottom's costs
   ends : (d e : ℕ) → d < e → slotStart (2 ^ d) l 0 + 2 ^ d ≤ slotStart (2 ^ e) l 0
   ends d e h = omega (arith, slot-apart (2 ^ d) l 0 l (size .paths), slot-deep d e l 0 h)
@@ -103,9 +108,9 @@ module _ (deep q l h : ℕ) (y : List ℤ) (t₀ : List ℕ) (size : StartSize d
   small : magnitude y < 2 ^ 31
   small =
       let e : 2 ^ suc (suc deep) ≤ 2 ^ 10 = pow-mono {i = suc (suc deep)} {j = 10} (omega (arith, size .deepest)) in
-      omega (arith, size .range, size .whole)
+      omega (arith, magnitude-range given (size .range), size .whole)
 
-  pub bottom-fits : (16 * (slotStart q l 0 + q) ≤ length t₀) × (length y ≡ 4 * q) × (q ≤ 256)
+  pub bottom-fits : (16 * (slotStart q l 0 + q) ≤ length t₀) × (length given ≡ 4 * q) × (q ≤ 256)
   bottom-fits =
       let e : 2 ^ deep ≤ 2 ^ 8 = pow-mono {i = deep} {j = 8} (size .deepest) in
       let at : slotStart q l 0 ≡ slotStart (2 ^ deep) l 0 = ap (λ (w : ℕ). slotStart w l 0) (size .bottom) in (
@@ -165,7 +170,7 @@ module _ (deep q l h : ℕ) (y : List ℤ) (t₀ : List ℕ) (size : StartSize d
 
       soft : (i x : ℕ) → i < 2 ^ deep → F (fourAt y q i) x ≡ F (nodeSoft deep y i) x
       soft i x hi = ap (λ (z : List ℤ). F z x)
-          (ap (λ (w : ℕ). fourAt y w i) (size .bottom) ∙ sym (nodeSoft-bottom deep y i hi (size .whole)))
+          (ap (λ (w : ℕ). fourAt y w i) (size .bottom) ∙ sym (nodeSoft-bottom deep y i hi (length-taken given ∙ size .whole)))
 
       window : (i x : ℕ) → i < 2 ^ deep → x < 16
           → getD t₂ (16 * (slotStart (2 ^ deep) l 0 + i) + x) 0 ≡ at4 (W4 2 (nodeSoft deep y i) []) x

@@ -1,10 +1,13 @@
 -- The start, where no bit is decided: what the tables then hold.
 use mathlib.Core.Path.{_≡_}
 use mathlib.Core.Logic.{_⊎_}
+use mathlib.Core.Bool.{false}
 use mathlib.Core.List.{List, []}
 use Prim.Native.Nat.{ℕ, suc, _+_, _*_, _<_, _≤_, _^_}
 use lib.ListN.{getD, length}
 use lib.IntN.{ℤ}
+use Rattle.spec.specs.Faults.{some}
+use Rattle.spec.specs.Refusals.{outOfRange}
 use Rattle.laws.specs.Cost.{magnitude}
 use Rattle.laws.specs.Windows.{F, W4, at4}
 use Rattle.laws.specs.Nodes.{nodeSoft}
@@ -16,8 +19,7 @@ use Rattle.tables.specs.Tab.{slotStart}
 abbrev pub firstF : ℕ → ℕ → List ℕ → ℕ → ℕ → ℕ
 firstF src w t i = first32 (tabAt t (16 * (src + i)) 0) (tabAt t (16 * (src + w + i)) 0)
 
--- y are the soft values as they are taken
-pub record StartSize (deep q l h : ℕ) (t : List ℕ) (y : List ℤ) : Type 0 where
+pub record StartSize (deep q l h : ℕ) (t : List ℕ) (soft : List ℤ) : Type 0 where
   pub deepest : deep ≤ 8
   pub bottom : q ≡ 2 ^ deep
   pub paths : 1 ≤ l
@@ -25,8 +27,8 @@ pub record StartSize (deep q l h : ℕ) (t : List ℕ) (y : List ℤ) : Type 0 w
   pub low : slotStart (2 ^ suc deep) l 0 ≤ h
   pub near : h ≤ 1000000
   pub costs : 16 * (h + 2 ^ deep) ≤ length t
-  pub whole : length y ≡ 2 ^ suc (suc deep)
-  pub range : magnitude y ≤ 2047 * length y
+  pub whole : length soft ≡ 2 ^ suc (suc deep)
+  pub range : some outOfRange soft ≡ false
 
 -- the bottom's costs, of every word of four bits
 abbrev pub Costs : ℕ → ℕ → List ℤ → List ℕ → Type 0

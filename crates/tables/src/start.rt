@@ -58,7 +58,7 @@ fn first_layer(t: &mut [u32], w: usize, l: usize)
 // The bottom's costs, and the windows of the empty prefix of every layer, from the bottom to the top.
 // q is the number of bottom nodes.
 pub fn start(t: &mut [u32], soft: &[i16], deep: usize, q: usize, l: usize, h: usize)
-    requires { ⌜ StartSize deep q l h (now t) (taken (now soft)) × (some outOfRange (now soft) ≡ false) ⌝ }
+    requires { ⌜ StartSize deep q l h (now t) (now soft) ⌝ }
     ensures { λ _. ⌜ Started deep l h (taken (now (soft .entry))) (now (t .exit))
         × Untouched deep l h (now (t .entry)) (now (t .exit)) ⌝ }
 {

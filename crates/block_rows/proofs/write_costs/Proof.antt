@@ -1,6 +1,6 @@
 use native.Mathlib.Omega.{arith}
 use borrow.Author.Needs.{needs}
-use Rattle.laws.specs.Taken.{length-taken}
+use Rattle.laws.specs.Taken.{magnitude-range}
 use Rattle.block_rows.proofs.write_costs.Statement.{statement}
 use Rattle.block_rows.proofs.write_costs.Tie as tie
 
@@ -8,10 +8,7 @@ read-costs-requires : tie.Need-read-costs-requires
 read-costs-requires c κs = search needs
 
 magnitude-requires : tie.Need-magnitude-requires
-magnitude-requires c κs =
-    let s = c .before .before .before .before in
-    let e = length-taken (s .args .soft .now) in
-    (omega (arith, e, s .pre .0 .short), s .pre .1)
+magnitude-requires c κs = search needs
 
 write-scores-requires : tie.Need-write-scores-requires
 write-scores-requires c κs =
@@ -19,11 +16,11 @@ write-scores-requires c κs =
     let k = c .before .before .before .read-costs .ensures in
     let e = c .before .before .magnitude .ensures in
     record {
-      small = omega (arith, e, s .pre .0 .range, s .pre .0 .short);
-      few = s .pre .0 .few;
-      room = s .pre .0 .places;
+      small = omega (arith, e, magnitude-range (s .args .soft .now) (s .pre .range), s .pre .short);
+      few = s .pre .few;
+      room = s .pre .places;
       there = k .long;
-      below = λ r h. omega (arith, k .are r h, s .pre .0 .below r h, e);
+      below = λ r h. omega (arith, k .are r h, s .pre .below r h, e);
     }
 
 same-length : tie.Need-same-length

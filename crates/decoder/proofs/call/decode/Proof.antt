@@ -5,7 +5,7 @@ use borrow.Author.Needs.{needs}
 use Prim.Native.Nat.{_^_, _/_}
 use Rattle.spec.specs.Refusals.{Room}
 use Rattle.spec.specs.Outcome.{Lent, lent, roomOf}
-use Rattle.decoder.proofs.Refusing.{refused-call, in-range, small-exponent, serve-fits, served-call}
+use Rattle.decoder.proofs.Refusing.{refused-call, small-exponent, serve-fits, served-call}
 use Rattle.decoder.proofs.call.decode.Statement.{statement}
 use Rattle.decoder.proofs.call.decode.Tie as tie
 
@@ -42,10 +42,8 @@ times-requires c κs =
 serve-requires : tie.Need-serve-requires
 serve-requires c κs =
     let s = c .before .before .before .before .before .before .before .before .before .before .before .before .before .before in
-    let k = c .before .before .before .before .before .before .before .before .decode-refusal in (
-      serve-fits (s .args .m) (s .args .l) (s .args .p) (s .args .map .now) (s .args .soft .now) (k .result) (room-of s) (k .ensures) (c .before .before .before .before .before .before .before .if1 .left) _ _ (c .before .before .before .before .before .before .size .ensures .0) (c .before .before .before .before .before .times .ensures .0),
-      in-range (s .args .m) (s .args .l) (s .args .p) (s .args .map .now) (s .args .soft .now) (k .result) (room-of s) (k .ensures) (c .before .before .before .before .before .before .before .if1 .left),
-    )
+    let k = c .before .before .before .before .before .before .before .before .decode-refusal in
+    serve-fits (s .args .m) (s .args .l) (s .args .p) (s .args .map .now) (s .args .soft .now) (k .result) (room-of s) (k .ensures) (c .before .before .before .before .before .before .before .if1 .left) _ _ (c .before .before .before .before .before .before .size .ensures .0) (c .before .before .before .before .before .times .ensures .0)
 
 cast-t31 : tie.Need-cast-t31
 cast-t31 c = search needs

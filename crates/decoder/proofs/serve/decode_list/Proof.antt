@@ -4,9 +4,10 @@ use Prim.Native.Nat.{ℕ}
 use native.Mathlib.Omega.{arith}
 use lib.ListN.{length, getD}
 use borrow.Author.Needs.{needs}
-use Rattle.spec.specs.Score.{taken}
 use Rattle.decoder.proofs.Serving.{start-fits, run-fits, exponent, whole, zeroed}
 use Rattle.spec.specs.Code.{code}
+use Rattle.spec.specs.Score.{taken}
+use Rattle.laws.specs.Taken.{length-taken}
 use Rattle.positions.specs.Running.{zeros-at}
 use Rattle.decoder.proofs.serve.decode_list.Statement.{statement}
 use Rattle.decoder.proofs.serve.decode_list.Tie as tie
@@ -23,12 +24,12 @@ fill-bytes-requires c κs = search needs
 start-requires : tie.Need-start-requires
 start-requires c κs =
     let s = c .before .before .before .before .before .before .before .before in
-    (start-fits (s .args .m) (s .args .l) (s .args .p) (s .args .n) (s .args .h) (s .args .map .now) (taken (s .args .soft .now)) _ (s .pre .0) (s .args .t .now) (omega arith), s .pre .1)
+    start-fits (s .args .m) (s .args .l) (s .args .p) (s .args .n) (s .args .h) (s .args .map .now) (s .args .soft .now) _ (s .pre) (s .args .t .now) (omega arith)
 
 positions-requires : tie.Need-positions-requires
 positions-requires c κs =
     let s = c .before .before .before .before .before .before .before .before .before .before .before .before .before in
-    run-fits (s .args .m) (s .args .l) (s .args .p) (s .args .n) (s .args .h) (s .args .map .now) (taken (s .args .soft .now)) _ (s .pre .0) _ _ (omega (arith, c .before .before .before .before .start .kept .0)) (omega (arith, c .before .before .before .before .before .before .before .before .fill-bytes .kept .0))
+    run-fits (s .args .m) (s .args .l) (s .args .p) (s .args .n) (s .args .h) (s .args .map .now) (s .args .soft .now) _ (s .pre) _ _ (omega (arith, c .before .before .before .before .start .kept .0)) (omega (arith, c .before .before .before .before .before .before .before .before .fill-bytes .kept .0))
 
 same-length : tie.Need-same-length
 same-length c = search needs
@@ -45,7 +46,7 @@ returns c =
     record {
       few = q .few;
       ran = q .ran (code (s .args .m) (s .args .map .now)) (taken (s .args .soft .now)) refl
-          (record { exponent = exponent (s .args .m) (s .args .l) (s .args .p) (s .args .n) (s .args .h) (s .args .map .now) (taken (s .args .soft .now)) _ (s .pre .0); soft = s .pre .0 .long ∙ whole (s .args .m) (s .args .l) (s .args .p) (s .args .n) (s .args .h) (s .args .map .now) (taken (s .args .soft .now)) _ (s .pre .0); small = a .small }) a
+          (record { exponent = exponent (s .args .m) (s .args .l) (s .args .p) (s .args .n) (s .args .h) (s .args .map .now) (s .args .soft .now) _ (s .pre); soft = length-taken (s .args .soft .now) ∙ s .pre .long ∙ whole (s .args .m) (s .args .l) (s .args .p) (s .args .n) (s .args .h) (s .args .map .now) (s .args .soft .now) _ (s .pre); small = a .small }) a
           (λ j. ap (λ (b : List ℕ). getD b j 0) (z .ensures ∙ zeroed (s .args .b .now)) ∙ zeros-at (length (s .args .b .now)) j);
     }
 

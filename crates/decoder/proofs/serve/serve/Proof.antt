@@ -3,7 +3,6 @@ use Prim.Native.Nat.{ℕ}
 use native.Mathlib.Omega.{arith}
 use borrow.Author.Needs.{needs}
 use lib.ListN.{replicate}
-use Rattle.spec.specs.Score.{taken}
 use Rattle.decoder.proofs.Serving.{bits-fit}
 use Rattle.decoder.proofs.Outputs.{enough, costs-fit, served}
 use Rattle.decoder.proofs.serve.serve.Statement.{statement}
@@ -12,19 +11,19 @@ use Rattle.decoder.proofs.serve.serve.Tie as tie
 decode-list-requires : tie.Need-decode-list-requires
 decode-list-requires c κs =
     let s = c .before .before .before .before .before .before .before in
-    (enough (s .args .m) (s .args .l) (s .args .p) (s .args .n) (s .args .h) (s .args .map .now) (taken (s .args .soft .now)) _ (s .pre .0), s .pre .1)
+    enough (s .args .m) (s .args .l) (s .args .p) (s .args .n) (s .args .h) (s .args .map .now) (s .args .soft .now) _ (s .pre)
 
 write-bits-requires : tie.Need-write-bits-requires
 write-bits-requires c κs =
     let s = c .before .before .before .before .before .before .before .before .before .before .before .before .before .before .before in
     let d = c .before .before .before .before .before .before .before .decode-list in
-    bits-fit (s .args .m) (s .args .l) (s .args .p) (s .args .n) (s .args .h) (s .args .map .now) (taken (s .args .soft .now)) _ (s .pre .0) (d .result .count) _ (d .ensures .few) (omega (arith, d .kept .1 .1 .1 .1 .1 .1 .0))
+    bits-fit (s .args .m) (s .args .l) (s .args .p) (s .args .n) (s .args .h) (s .args .map .now) (s .args .soft .now) _ (s .pre) (d .result .count) _ (d .ensures .few) (omega (arith, d .kept .1 .1 .1 .1 .1 .1 .0))
 
 write-costs-requires : tie.Need-write-costs-requires
 write-costs-requires c κs =
     let s = c .before .before .before .before .before .before .before .before .before .before .before .before .before .before .before .before .before .before .before .before .before in
     let d = c .before .before .before .before .before .before .before .before .before .before .before .before .before .decode-list in
-    (costs-fit (s .args .m) (s .args .l) (s .args .p) (s .args .n) (s .args .h) (s .args .map .now) (taken (s .args .soft .now)) _ (s .pre .0) (d .result) (d .last .1 .1 .1 .1 .1 .0) (d .last .1 .1 .1 .1 .1 .1 .0) (d .ensures), s .pre .1)
+    costs-fit (s .args .m) (s .args .l) (s .args .p) (s .args .n) (s .args .h) (s .args .map .now) (s .args .soft .now) _ (s .pre) (d .result) (d .last .1 .1 .1 .1 .1 .0) (d .last .1 .1 .1 .1 .1 .1 .0) (d .ensures)
 
 clear-tables-requires : tie.Need-clear-tables-requires
 clear-tables-requires c κs = search needs
@@ -51,7 +50,7 @@ returns c =
     let w = c .before .before .before .before .before .before .before .before .before .before .before .before .before .before .write-bits in
     let k = c .before .before .before .before .before .before .before .before .write-costs in
     let z = c .before .before .before .before .clear-tables in
-    served (s .args .m) (s .args .l) (s .args .p) (s .args .n) (s .args .h) (s .args .map .now) (taken (s .args .soft .now)) _ (s .pre .0) (d .result) (d .last .1 .1 .1 .1 .1 .0) (d .last .1 .1 .1 .1 .1 .1 .0) (d .ensures) (w .last .0) (w .last .1 .0) (k .last .0) (w .ensures) (k .ensures) (z .last .0) (z .last .1 .0)
+    served (s .args .m) (s .args .l) (s .args .p) (s .args .n) (s .args .h) (s .args .map .now) (s .args .soft .now) _ (s .pre) (d .result) (d .last .1 .1 .1 .1 .1 .0) (d .last .1 .1 .1 .1 .1 .1 .0) (d .ensures) (w .last .0) (w .last .1 .0) (k .last .0) (w .ensures) (k .ensures) (z .last .0) (z .last .1 .0)
     (z .ensures .0 ∙ ap (λ (j : ℕ). replicate j 0) (d .kept .1 .1 .1 .1 .1 .0)) (z .ensures .1 ∙ ap (λ (j : ℕ). replicate j 0) (d .kept .1 .1 .1 .1 .1 .1 .0))
 
 pub serve-spec : {M : Type 1} → statement M

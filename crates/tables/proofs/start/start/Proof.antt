@@ -1,10 +1,9 @@
-use mathlib.Core.Path.{_≡_, sym, _∙_}
+use mathlib.Core.Path.{_≡_, _∙_}
 use Prim.Native.Nat.{_-_, _≤_}
 use native.Mathlib.Omega.{arith}
 use denote.Ref.{now}
 use borrow.Author.Needs.{needs}
 use Rattle.spec.specs.Score.{taken}
-use Rattle.laws.specs.Taken.{length-taken}
 use Rattle.tables.proofs.Starting.{Starting, bottom-fits, start-again, start-bottom, start-done, start-fits}
 use Rattle.tables.proofs.Starting.{start-more}
 use Rattle.tables.proofs.start.start.Statement.{statement}
@@ -19,24 +18,24 @@ abbrev μ-loop : tie.MeasureT-loop
 lay-costs-requires : tie.Need-lay-costs-requires Inv-loop μ-loop
 lay-costs-requires c κs =
     let s = c .before .before in
-    let f = bottom-fits (s .args .deep) (s .args .q) (s .args .l) (s .args .h) (taken (now (s .args .soft))) (now (s .args .t)) (s .pre .0) in
-    (omega (arith, s .pre .0 .bottom, s .pre .0 .costs), sym (length-taken (now (s .args .soft))) ∙ f .1, s .pre .1)
+    let f = bottom-fits (s .args .deep) (s .args .q) (s .args .l) (s .args .h) (now (s .args .soft)) (now (s .args .t)) (s .pre) in
+    (omega (arith, s .pre .bottom, s .pre .costs), f .1, s .pre .range)
 
 place-requires : tie.Need-place-requires Inv-loop μ-loop
 place-requires c κs =
     let s = c .before .before .before .before .before .before in
     let f : s .args .q ≤ 256
-    = bottom-fits (s .args .deep) (s .args .q) (s .args .l) (s .args .h) (taken (now (s .args .soft))) (now (s .args .t))
-    (s .pre .0) .2 in
-    (omega arith, s .pre .0 .long, omega arith)
+    = bottom-fits (s .args .deep) (s .args .q) (s .args .l) (s .args .h) (now (s .args .soft)) (now (s .args .t))
+    (s .pre) .2 in
+    (omega arith, s .pre .long, omega arith)
 
 lay-costs-requires-2 : tie.Need-lay-costs-requires-2 Inv-loop μ-loop
 lay-costs-requires-2 c κs =
     let k = c .before .before .before .before in
     let s = k .before .before .before in
-    let f = bottom-fits (s .args .deep) (s .args .q) (s .args .l) (s .args .h) (taken (now (s .args .soft)))
-    (now (s .args .t)) (s .pre .0) in
-    (omega (arith, f .0, c .place .ensures .is, k .lay-costs .ensures .same), sym (length-taken (now (s .args .soft))) ∙ f .1, s .pre .1)
+    let f = bottom-fits (s .args .deep) (s .args .q) (s .args .l) (s .args .h) (now (s .args .soft))
+    (now (s .args .t)) (s .pre) in
+    (omega (arith, f .0, c .place .ensures .is, k .lay-costs .ensures .same), f .1, s .pre .range)
 
 loop-holds : tie.Need-loop-holds Inv-loop μ-loop
 loop-holds c =
@@ -44,10 +43,10 @@ loop-holds c =
     let p = m .before in
     let k = p .before .before .before .before in
     let s = k .before .before .before in
-    start-again (s .args .deep) (s .args .q) (s .args .l) (s .args .h) (taken (now (s .args .soft))) (now (s .args .t))
-    (s .pre .0) (s .args .q) (m .lay-costs2 .last .0)
-    (start-bottom (s .args .deep) (s .args .q) (s .args .l) (s .args .h) (taken (now (s .args .soft))) (now (s .args .t))
-    (s .pre .0) (k .lay-costs .last .0) (m .lay-costs2 .last .0) (k .lay-costs .ensures)
+    start-again (s .args .deep) (s .args .q) (s .args .l) (s .args .h) (now (s .args .soft)) (now (s .args .t))
+    (s .pre) (s .args .q) (m .lay-costs2 .last .0)
+    (start-bottom (s .args .deep) (s .args .q) (s .args .l) (s .args .h) (now (s .args .soft)) (now (s .args .t))
+    (s .pre) (k .lay-costs .last .0) (m .lay-costs2 .last .0) (k .lay-costs .ensures)
     (rw (p .place .ensures .is) at (m .lay-costs2 .ensures)))
 
 sub-d : tie.Need-sub-d Inv-loop μ-loop
@@ -60,8 +59,8 @@ first-layer-requires c κs =
     let k = m .before .before .before .before .before in
     let s = k .before .before .before in
     let l = v .loop in
-    start-fits (s .args .deep) (s .args .q) (s .args .l) (s .args .h) (taken (now (s .args .soft))) (now (s .args .t))
-    (s .pre .0) (l .d) (l .w) (l .t) (m .lay-costs2 .last .0)
+    start-fits (s .args .deep) (s .args .q) (s .args .l) (s .args .h) (now (s .args .soft)) (now (s .args .t))
+    (s .pre) (l .d) (l .w) (l .t) (m .lay-costs2 .last .0)
     (l .inv .rest .same ∙ m .lay-costs2 .ensures .same ∙ k .lay-costs .ensures .same) (c .before .loop-test .taken)
     (l .inv)
 
@@ -76,8 +75,8 @@ loop-again c =
     let m = v .before .before .before in
     let s = m .before .before .before .before .before .before .before .before in
     let l = v .loop in
-    start-more (s .args .deep) (s .args .q) (s .args .l) (s .args .h) (taken (now (s .args .soft))) (now (s .args .t))
-    (s .pre .0) (l .d) (l .w) (m .lay-costs2 .last .0) (l .t) (f .first-layer .last .0)
+    start-more (s .args .deep) (s .args .q) (s .args .l) (s .args .h) (now (s .args .soft)) (now (s .args .t))
+    (s .pre) (l .d) (l .w) (m .lay-costs2 .last .0) (l .t) (f .first-layer .last .0)
     (g .loop-test .taken) (l .inv) (f .first-layer .ensures)
 
 same-length : tie.Need-same-length Inv-loop μ-loop
@@ -92,10 +91,10 @@ returns c =
     let s = k .before .before .before in
     let l = v .loop in
     let e : l .d ≡ 0 = omega arith in
-    start-done (s .args .deep) (s .args .q) (s .args .l) (s .args .h) (taken (now (s .args .soft))) (now (s .args .t))
-    (s .pre .0) (s .args .q) (l .w) (m .lay-costs2 .last .0) (l .t)
-    (start-bottom (s .args .deep) (s .args .q) (s .args .l) (s .args .h) (taken (now (s .args .soft))) (now (s .args .t))
-    (s .pre .0) (k .lay-costs .last .0) (m .lay-costs2 .last .0) (k .lay-costs .ensures)
+    start-done (s .args .deep) (s .args .q) (s .args .l) (s .args .h) (now (s .args .soft)) (now (s .args .t))
+    (s .pre) (s .args .q) (l .w) (m .lay-costs2 .last .0) (l .t)
+    (start-bottom (s .args .deep) (s .args .q) (s .args .l) (s .args .h) (now (s .args .soft)) (now (s .args .t))
+    (s .pre) (k .lay-costs .last .0) (m .lay-costs2 .last .0) (k .lay-costs .ensures)
     (rw (p .place .ensures .is) at (m .lay-costs2 .ensures))) (rw e at (l .inv))
 
 pub start-spec : {M : Type 1} → statement M
