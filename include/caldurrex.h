@@ -103,12 +103,13 @@ uint32_t caldurrex_extract(uint32_t m, const uint8_t *map, size_t map_len,
  * A soft value is a number from -2048 to 2047; a positive one favours bit 0. -2048
  * is full scale and taken as -2047: a call with it gives what the call with -2047
  * in its place gives. The correlation of a word is the sum of the soft values, each
- * negated where the word has a 1. The score of a prefix is the largest correlation of a transform over all
- * inputs that begin with the prefix, whatever is frozen behind it. The list begins
- * as the empty prefix. Position by position, each prefix goes on with 0 where the
- * position is frozen and with both bits where it is not, and then the list_size
- * best stay: higher score first, then the one with 0 at the first place where two
- * differ. After stop positions the list in this order is the result, rank 0 first.
+ * negated where the word has a 1. The score of a prefix is the largest correlation
+ * of a transform over all inputs that begin with the prefix, whatever is frozen
+ * behind it. The list begins as the empty prefix. Position by position, each prefix
+ * goes on with 0 where the position is frozen and with both bits where it is not,
+ * and then the list_size best stay: higher score first, then the one with 0 at the
+ * first place where two differ. After stop positions the list in this order is the
+ * result, rank 0 first.
  *
  *   map        the frozen map, ceil(n/8) bytes
  *   list_size  l, 1 to 32

@@ -36,9 +36,11 @@ static const struct example {
     {0x00, 32, 0, {5, -3, 2, 7}, 1, {{17, "0000", "0000"}}},
     /* k = 0. */
     {0x0f, 4, 4, {5, -3, 2, 7}, 1, {{11, "0000", "0000"}}},
-    /* -2,048 is taken as -2,047, which ties with 2,047 against it. */
+    /* -2,048 is taken as -2,047: in the last one two rows tie, and 0110 would lead with
+     * 13 to 11 if it were not. */
     {0x00, 1, 4, {-2048, -2048, -2048, -2048}, 1, {{8188, "0001", "1111"}}},
     {0x0e, 2, 4, {-2048, 2047, 5, 0}, 2, {{4099, "1000", "1000"}, {5, "0000", "0000"}}},
+    {0x03, 2, 4, {5, -2048, 2047, 7}, 2, {{12, "0000", "0000"}, {12, "0010", "0110"}}},
 };
 
 static int row_is(const struct decoder_outputs *out, size_t r, int32_t score, const char *input, const char *word)

@@ -1,4 +1,5 @@
--- A record that is built from what it says is read back to exactly that, soft values as they are taken. No code is in scope: the theorem is over the definitions.
+-- A record that is built from what it says is read back to exactly that, soft values as they are taken. No code is in scope: the
+-- theorem is over the definitions.
 use mathlib.Core.Path.{_≡_, refl, sym, ap, ap₂, _∙_}
 use mathlib.Core.Bool.{Bool, false, _||_}
 use mathlib.Core.List.{List, [], _∷_, _++_, append-assoc}

@@ -21,18 +21,18 @@ abbrev pub nextLowest : ℤ
 nextLowest = negsuc 2046
 
 -- ---- lists that are taken alike: equally long, and both in range or neither
-pub taken-at : (ys zs : List ℤ) → taken (ys ++ lowest ∷ zs) ≡ taken (ys ++ nextLowest ∷ zs)
-taken-at ys zs = map-append saturated ys (lowest ∷ zs) ∙ sym (map-append saturated ys (nextLowest ∷ zs))
+alike-at : (ys zs : List ℤ) → taken (ys ++ lowest ∷ zs) ≡ taken (ys ++ nextLowest ∷ zs)
+alike-at ys zs = map-append saturated ys (lowest ∷ zs) ∙ sym (map-append saturated ys (nextLowest ∷ zs))
 
 module _ (ys zs : List ℤ) (alike : taken ys ≡ taken zs) where
-  pub length-alike : length ys ≡ length zs
+  length-alike : length ys ≡ length zs
   length-alike = sym (length-taken ys) ∙ ap length alike ∙ length-taken zs
 
   pub range-alike : some outOfRange ys ≡ some outOfRange zs
   range-alike = sym (taken-range ys) ∙ ap (some outOfRange) alike ∙ taken-range zs
 
   module _ (c : Code) (l p : ℕ) where
-    pub refusal-alike : (r : Room) → decodeRefusal c l p ys r ≡ decodeRefusal c l p zs r
+    refusal-alike : (r : Room) → decodeRefusal c l p ys r ≡ decodeRefusal c l p zs r
     unfolding decodeRefusal
     refusal-alike r = rw (length-alike, range-alike)
 
@@ -49,4 +49,4 @@ module _ (ys zs : List ℤ) (alike : taken ys ≡ taken zs) where
 -- A call with −2,048 at some place has the outcome of the call with −2,047 there: the answer and all that was lent.
 pub full-scale : (c : Code) (l p : ℕ) (ys zs : List ℤ) (x : Lent)
     → decodeOutcome c l p (ys ++ lowest ∷ zs) x ≡ decodeOutcome c l p (ys ++ nextLowest ∷ zs) x
-full-scale c l p ys zs x = taken-alike (ys ++ lowest ∷ zs) (ys ++ nextLowest ∷ zs) (taken-at ys zs) c l p x
+full-scale c l p ys zs x = taken-alike (ys ++ lowest ∷ zs) (ys ++ nextLowest ∷ zs) (alike-at ys zs) c l p x
