@@ -75,25 +75,34 @@ static void make_load(uint32_t m, uint32_t l)
             load.soft[block][i] = (int16_t)(20 + (int)draw_below(121) - 60);
 }
 
-static int32_t decode(enum decoder decoder, const int16_t *soft)
+/* The plain decoder refuses nothing. */
+static struct caldurrex_decoded decode(enum decoder decoder, const int16_t *soft)
 {
     struct memory *lent = &memory[decoder];
     size_t n = load.n, l = load.l;
-    if (decoder == PLAIN)
-        return plain_decode((int)load.m, load.map, (int)l, (int)n, soft, lent->numbers, lent->bytes, lent->inputs,
-                            lent->words, lent->scores);
+    if (decoder == PLAIN) {
+        struct plain_decoded plain = plain_decode((int)load.m, load.map, (int)l, (int)n, soft, lent->numbers,
+                                                  lent->bytes, lent->inputs, lent->words, lent->scores);
+        return (struct caldurrex_decoded){0, (uint32_t)plain.rows, plain.ceiling};
+    }
     return caldurrex_decode(load.m, load.map, n / 8, load.l, (uint32_t)n, soft, n,
                             lent->numbers, CALDURREX_NUMBERS(n, l), lent->bytes, CALDURREX_BYTES(n, l),
                             lent->inputs, CALDURREX_ROWS(n, l), lent->words, CALDURREX_ROWS(n, l), lent->scores, l);
 }
 
-/* Both decoders must give the same rows. */
+static int served(struct caldurrex_decoded answer)
+{
+    return answer.refusal == 0 && answer.rows > 0;
+}
+
+/* Both decoders must give the same rows and the same ceiling. */
 static void compare(const int16_t *soft)
 {
-    int32_t ours = decode(OURS, soft), plain = decode(PLAIN, soft);
+    struct caldurrex_decoded ours = decode(OURS, soft), plain = decode(PLAIN, soft);
     const struct memory *a = &memory[OURS], *b = &memory[PLAIN];
-    need(ours > 0 && ours == plain, "the row counts differ or a block was refused");
-    size_t rows = (size_t)ours, len = rows * load.n;
+    need(served(ours) && ours.rows == plain.rows, "the row counts differ or a block was refused");
+    need(ours.ceiling == plain.ceiling, "the ceilings differ");
+    size_t rows = ours.rows, len = rows * load.n;
     need(memcmp(a->inputs, b->inputs, len) == 0 && memcmp(a->words, b->words, len) == 0, "a row differs");
     need(memcmp(a->scores, b->scores, rows * sizeof a->scores[0]) == 0, "a score differs");
 }
@@ -105,7 +114,7 @@ static void run(enum decoder decoder, unsigned long count)
         if (decoder == BOTH)
             compare(soft);
         else
-            need(decode(decoder, soft) > 0, "a block was refused");
+            need(served(decode(decoder, soft)), "a block was refused");
     }
 }
 

@@ -33,6 +33,7 @@ struct decoder {
     uint8_t odd_slot[MAX_LAYER + 1][MAX_LIST];    /* where its odd bits and sums lie */
     uint32_t cost[MAX_LIST];
     uint8_t place[MAX_LIST]; /* of path r's prefix among the live ones in lexicographic order */
+    uint32_t dropped;        /* the least key of a dropped child; its cost is the least too */
 };
 
 /* The children of a position that stay, best first. */
@@ -219,29 +220,32 @@ static void child_costs(const struct decoder *d, int r, int position, uint32_t c
     }
 }
 
-static void insert(struct children *c, int most, uint32_t key, int parent)
+/* Gives the key that is dropped for it, UINT32_MAX if none is. */
+static uint32_t insert(struct children *c, int most, uint32_t key, int parent)
 {
     int to = c->count;
+    uint32_t dropped = UINT32_MAX;
     if (c->count < most)
         c->count++;
-    else if (c->key[--to] < key)
-        return;
+    else if ((dropped = c->key[--to]) < key)
+        return key;
     for (; to > 0 && c->key[to - 1] > key; to--) {
         c->key[to] = c->key[to - 1];
         c->parent[to] = c->parent[to - 1];
     }
     c->key[to] = key;
     c->parent[to] = (uint8_t)parent;
+    return dropped;
 }
 
-static void split(const struct decoder *d, int position, int frozen, struct children *c)
+static void split(struct decoder *d, int position, int frozen, struct children *c)
 {
     c->count = 0;
     for (int r = 0; r < d->count; r++) {
         uint32_t cost[2];
         child_costs(d, r, position, cost);
         for (uint32_t bit = 0; bit < (frozen ? 1 : 2); bit++)
-            insert(c, d->l, cost[bit] * 64 + 2u * d->place[r] + bit, r);
+            d->dropped = least(d->dropped, insert(c, d->l, cost[bit] * 64 + 2u * d->place[r] + bit, r));
     }
 }
 
@@ -293,13 +297,14 @@ static void read_back(const struct decoder *d, int rank, int stop, uint8_t *inpu
     }
 }
 
-int plain_decode(int m, const uint8_t *map, int list_size, int stop, const int16_t *soft, uint32_t *numbers,
-                 uint8_t *bytes, uint8_t *inputs, uint8_t *words, int32_t *scores)
+struct plain_decoded plain_decode(int m, const uint8_t *map, int list_size, int stop, const int16_t *soft,
+                                  uint32_t *numbers, uint8_t *bytes, uint8_t *inputs, uint8_t *words,
+                                  int32_t *scores)
 {
     int n = 1 << m, l = list_size, magnitudes = 0;
     struct decoder d = {.m = m, .n = n, .l = l, .count = 1, .windows = numbers, .bottom = numbers + 8 * n * l,
                         .even = bytes, .sum = bytes + n * l / 2, .odd = bytes + n * l,
-                        .history = bytes + 3 * n * l / 2};
+                        .history = bytes + 3 * n * l / 2, .dropped = UINT32_MAX};
     for (int i = 0; i < n; i++)
         magnitudes += abs(taken(soft[i]));
     start(&d, soft);
@@ -318,5 +323,6 @@ int plain_decode(int m, const uint8_t *map, int list_size, int stop, const int16
     }
     memset(numbers, 0, (size_t)32 * n * l * sizeof numbers[0]);
     memset(bytes, 0, ((size_t)4 * n + 256) * l);
-    return d.count;
+    /* With nothing dropped UINT32_MAX / 64 is above every cost. */
+    return (struct plain_decoded){d.count, magnitudes - 2 * (int32_t)least(d.cost[0], d.dropped / 64)};
 }

@@ -1,5 +1,6 @@
 /*
- * A host that decodes one block of soft values with a list.
+ * A host that decodes blocks of soft values with a list, and reads from the ceiling
+ * whether a better word can be ruled out.
  *
  * Build, from the repository's top, after `rt staticlib caldurrex`:
  *
@@ -21,12 +22,16 @@ static uint8_t bytes[CALDURREX_BYTES(N, LIST)];
 static uint8_t inputs[CALDURREX_ROWS(N, LIST)], words[CALDURREX_ROWS(N, LIST)];
 static int32_t scores[LIST];
 
-static const uint8_t map[1] = {0x03}; /* positions 0 and 1 are frozen */
+/* A code and what was received. */
+struct block {
+    uint8_t map[1]; /* bit i is 1 where position i is frozen */
+    int16_t soft[N];
+};
 
 /* Lengths are numbers of elements, not of bytes. */
-static int32_t decode(const int16_t *soft, uint32_t list_size)
+static struct caldurrex_decoded decode(const struct block *block, uint32_t list_size)
 {
-    return caldurrex_decode(M, map, sizeof map, list_size, N, soft, N,
+    return caldurrex_decode(M, block->map, sizeof block->map, list_size, N, block->soft, N,
                             numbers, sizeof numbers / sizeof numbers[0], bytes, sizeof bytes,
                             inputs, sizeof inputs, words, sizeof words, scores, LIST);
 }
@@ -38,31 +43,39 @@ static void print_bits(const char *name, const uint8_t *bits)
         printf("%u", bits[i]);
 }
 
-/* Decodes and prints the rows, best first; the answer of the call. */
-static int32_t show(const int16_t *soft, uint32_t list_size)
+/* Decodes and prints the rows, best first, and what the ceiling tells of the first one;
+ * the refusal. No word of the code correlates above the ceiling, and row 0, at stop N,
+ * is a word of the code. */
+static uint32_t show(const struct block *block, uint32_t list_size)
 {
-    int32_t rows = decode(soft, list_size);
+    struct caldurrex_decoded answer = decode(block, list_size);
     printf("list size %u", (unsigned)list_size);
-    if (rows < 0) {
-        printf(" is refused with %d\n", (int)-rows);
-        return rows;
+    if (answer.refusal != 0) {
+        printf(" is refused with %u\n", (unsigned)answer.refusal);
+        return answer.refusal;
     }
-    printf(" gives %d rows\n", (int)rows);
-    for (int32_t r = 0; r < rows; r++) {
-        printf("  row %d score %d", (int)r, (int)scores[r]);
+    printf(" gives %u rows\n", (unsigned)answer.rows);
+    for (uint32_t r = 0; r < answer.rows; r++) {
+        printf("  row %u score %d", (unsigned)r, (int)scores[r]);
         print_bits("input", inputs + r * N);
         print_bits("word", words + r * N);
         printf("\n");
     }
-    return rows;
+    printf("  ceiling %d: %s\n", (int)answer.ceiling,
+           answer.ceiling == scores[0] ? "row 0 is a best word, a longer list finds no better one"
+                                       : "a better word than row 0 is not ruled out");
+    return 0;
 }
 
 int main(void)
 {
-    const int16_t soft[N] = {5, -3, 2, 7};
+    const struct block clean = {{0x03}, {5, -3, 2, 7}}, poor = {{0x0e}, {1, -5, 2, 2}};
     printf("code: n = 4, frozen 0 1\nsoft values 5 -3 2 7\n");
-    if (show(soft, 1) != 1 || show(soft, 2) != 2)
+    if (show(&clean, 1) != 0 || show(&clean, 2) != 0)
         return 1;
     /* The memory above is enough for two rows, not for three. */
-    return show(soft, 3) == -CALDURREX_SHORT_NUMBERS ? 0 : 1;
+    if (show(&clean, 3) != CALDURREX_SHORT_NUMBERS)
+        return 1;
+    printf("code: n = 4, frozen 1 2 3\nsoft values 1 -5 2 2\n");
+    return show(&poor, 1) == 0 && show(&poor, 2) == 0 ? 0 : 1;
 }

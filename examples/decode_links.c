@@ -131,7 +131,7 @@ static void free_memory(struct memory *lent)
     free(lent->scores);
 }
 
-static int32_t decode(const struct link *link, const int16_t *soft, const struct memory *lent)
+static struct caldurrex_decoded decode(const struct link *link, const int16_t *soft, const struct memory *lent)
 {
     return caldurrex_decode(link->m, link->map, map_len(link), link->list_size, (uint32_t)link->n, soft, link->n,
                             lent->numbers, lent->numbers_len, lent->bytes, lent->bytes_len,
@@ -198,10 +198,11 @@ static void serve(struct worker *w, struct link *link, const struct memory *used
     if (!receive(link, payload, soft))
         return;
     struct memory fresh = get_memory(link->n, link->list_size);
-    int32_t rows = decode(link, soft, used);
+    struct caldurrex_decoded first = decode(link, soft, used), second = decode(link, soft, &fresh);
+    int decoded = first.refusal == 0 && second.refusal == 0;
     w->blocks++;
-    w->same += rows > 0 && rows == decode(link, soft, &fresh) && holds_the_same(used, &fresh);
-    w->right += rows > 0 && payload_is(link, used->inputs, payload);
+    w->same += decoded && first.rows == second.rows && first.ceiling == second.ceiling && holds_the_same(used, &fresh);
+    w->right += decoded && payload_is(link, used->inputs, payload);
     free_memory(&fresh);
 }
 

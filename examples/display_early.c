@@ -35,10 +35,11 @@ static uint32_t past_frozen(void)
 /* Decodes up to the stop position and shows what is then known of the first row. */
 static int show_at(uint32_t stop)
 {
-    int32_t rows = caldurrex_decode(M, map, sizeof map, LIST, stop, soft, N,
-                                    numbers, sizeof numbers / sizeof numbers[0], bytes, sizeof bytes,
-                                    inputs, sizeof inputs, words, sizeof words, scores, LIST);
-    if (rows < 0)
+    struct caldurrex_decoded answer =
+        caldurrex_decode(M, map, sizeof map, LIST, stop, soft, N,
+                         numbers, sizeof numbers / sizeof numbers[0], bytes, sizeof bytes,
+                         inputs, sizeof inputs, words, sizeof words, scores, LIST);
+    if (answer.refusal != 0)
         return 0;
     printf("stop %u: score %d, input ", (unsigned)stop, (int)scores[0]);
     for (uint32_t i = 0; i < N; i++)

@@ -37,21 +37,23 @@ static void print_bits(const char *name, const uint8_t *bits, size_t n)
         printf("%u", bits[i]);
 }
 
-/* Decodes the record that was read last, and prints the rows, best first. The reader
- * has set all of both outputs; the decoder takes as much of them as the code needs. */
-static int32_t decode(const struct caldurrex_job *job)
+/* Decodes the record that was read last, and prints the rows, best first; the refusal.
+ * The reader has set all of both outputs; the decoder takes as much of them as the code
+ * needs. */
+static uint32_t decode(const struct caldurrex_job *job)
 {
     size_t n = (size_t)1 << job->m;
-    int32_t rows = caldurrex_decode(job->m, map, (n + 7) / 8, job->list_size, job->stop, soft, n,
-                                    numbers, sizeof numbers / sizeof numbers[0], bytes, sizeof bytes,
-                                    inputs, sizeof inputs, words, sizeof words, scores, LIST);
-    for (int32_t r = 0; r < rows; r++) {
-        printf("  row %d score %d", (int)r, (int)scores[r]);
+    struct caldurrex_decoded answer =
+        caldurrex_decode(job->m, map, (n + 7) / 8, job->list_size, job->stop, soft, n,
+                         numbers, sizeof numbers / sizeof numbers[0], bytes, sizeof bytes,
+                         inputs, sizeof inputs, words, sizeof words, scores, LIST);
+    for (uint32_t r = 0; r < answer.rows; r++) {
+        printf("  row %u score %d", (unsigned)r, (int)scores[r]);
         print_bits("input", inputs + r * n, n);
         print_bits("word", words + r * n, n);
         printf("\n");
     }
-    return rows;
+    return answer.refusal;
 }
 
 /* Reads the first len bytes of the record, and decodes what was read; the refusal. */
@@ -65,8 +67,7 @@ static uint32_t show(size_t len)
     }
     printf(": m %u, list size %u, stop %u, frame %u\n", (unsigned)job.m, (unsigned)job.list_size,
            (unsigned)job.stop, (unsigned)job.frame);
-    int32_t rows = decode(&job);
-    return rows < 0 ? (uint32_t)-rows : 0;
+    return decode(&job);
 }
 
 int main(void)

@@ -97,6 +97,13 @@ uint32_t caldurrex_extract(uint32_t m, const uint8_t *map, size_t map_len,
 #define CALDURREX_BYTES(n, l) (((size_t)4 * (n) + 256) * (l))
 #define CALDURREX_ROWS(n, l) ((size_t)(n) * (l))
 
+/* What a decoder call answers. refusal is 0 if the block was decoded, and then rows is
+ * at least 1; else it is the number of the refusal, and the other two are 0. */
+struct caldurrex_decoded {
+    uint32_t refusal, rows;
+    int32_t ceiling;
+};
+
 /*
  * Decodes a block of soft values with a list of list_size prefixes.
  *
@@ -134,8 +141,17 @@ uint32_t caldurrex_extract(uint32_t m, const uint8_t *map, size_t map_len,
  * position + 1, show these, and decode on with a larger stop: what it has shown stays.
  * The input bytes from stop on, the word and the other rows are not known before n.
  *
- * Returns the number of rows, which is at least 1, or minus the first of these that
- * applies, in this order:
+ * The ceiling is the larger of scores[0] and the highest score ever dropped in the
+ * call: at each clear position the prefixes that do not stay among the list_size best
+ * are dropped, and the scores of all that were dropped at the positions below stop
+ * count. No word of the code correlates above the ceiling, at any stop. At stop n,
+ * where it equals scores[0], the first row is a best word of the code, and no longer
+ * list finds a better one. Where it is above scores[0], it says nothing about whether
+ * a longer list would help. At stop 0 it is the sum of the magnitudes of the soft
+ * values as taken.
+ *
+ * The answer has the number of rows and the ceiling. Its refusal is 0, or the first of
+ * these that applies, in this order:
  *
  *   1   CALDURREX_BAD_M             m outside 2..10
  *   2   CALDURREX_BAD_MAP_LENGTH    map_len is not ceil(n/8)
@@ -151,14 +167,14 @@ uint32_t caldurrex_extract(uint32_t m, const uint8_t *map, size_t map_len,
  *
  * A refused call writes nowhere.
  */
-int32_t caldurrex_decode(uint32_t m, const uint8_t *map, size_t map_len,
-                         uint32_t list_size, uint32_t stop,
-                         const int16_t *soft, size_t soft_len,
-                         uint32_t *numbers, size_t numbers_len,
-                         uint8_t *bytes, size_t bytes_len,
-                         uint8_t *inputs, size_t inputs_len,
-                         uint8_t *words, size_t words_len,
-                         int32_t *scores, size_t scores_len);
+struct caldurrex_decoded caldurrex_decode(uint32_t m, const uint8_t *map, size_t map_len,
+                                          uint32_t list_size, uint32_t stop,
+                                          const int16_t *soft, size_t soft_len,
+                                          uint32_t *numbers, size_t numbers_len,
+                                          uint8_t *bytes, size_t bytes_len,
+                                          uint8_t *inputs, size_t inputs_len,
+                                          uint8_t *words, size_t words_len,
+                                          int32_t *scores, size_t scores_len);
 
 /* What a record says. refusal is 0 if it was read; else it is the number of the
  * refusal, and the other four are 0. */

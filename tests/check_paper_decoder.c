@@ -1,10 +1,12 @@
 /*
  * Checks the decoder that the library is compared with: its scores against plain
- * enumeration of all completions, and its lists against a list kept by such scores.
+ * enumeration of all completions, its lists and ceilings against lists kept by such
+ * scores, and its ceilings against every word of the code.
  *
  *   check_paper_decoder [seed]
  */
 #include "draw.h"
+#include "enumeration.h"
 #include "paper_decoder.h"
 #include "reference_codec.h"
 
@@ -45,31 +47,7 @@ static void draw_bits(uint8_t *bits, size_t len)
         bits[i] = (uint8_t)draw_below(2);
 }
 
-/* Bit i of the input, position 0 first, is bit n-1-i of the number: numbers rise as
- * inputs do, and the completions of a prefix are neighbours. */
-static void bits_of(size_t number, size_t len, uint8_t *bits)
-{
-    for (size_t i = 0; i < len; i++)
-        bits[i] = (uint8_t)(number >> (len - 1 - i) & 1);
-}
-
 /* ---- scores */
-
-/* By trying every completion. */
-static int32_t enumerated_score(size_t n, const int16_t *soft, const uint8_t *prefix, size_t len)
-{
-    uint8_t u[MAX_N], word[MAX_N];
-    int32_t most = INT32_MIN;
-    if (len > 0)
-        memcpy(u, prefix, len);
-    for (size_t rest = 0; rest < (size_t)1 << (n - len); rest++) {
-        bits_of(rest, n - len, u + len);
-        reference_transform(n, u, word);
-        int32_t correlation = paper_correlation(n, soft, word);
-        most = correlation > most ? correlation : most;
-    }
-    return most;
-}
 
 /* Every prefix of every length. A prefix's score is enumerated as the larger of its
  * completions' correlations, which are worked out once for each word. */
@@ -92,10 +70,8 @@ static void check_all_prefixes(size_t n)
         }
         if (len == 0)
             break;
-        for (size_t number = 0; number < (size_t)1 << (len - 1); number++) {
-            int32_t with_0 = most[2 * number], with_1 = most[2 * number + 1];
-            most[number] = with_0 > with_1 ? with_0 : with_1;
-        }
+        for (size_t number = 0; number < (size_t)1 << (len - 1); number++)
+            most[number] = larger(most[2 * number], most[2 * number + 1]);
     }
 }
 
@@ -127,80 +103,124 @@ static void check_next_bit(size_t n)
             u[len] = bit;
             with[bit] = paper_score(n, soft, u, len + 1);
         }
-        need(score == (with[0] > with[1] ? with[0] : with[1]), "a score by the next bit", n, len);
+        need(score == larger(with[0], with[1]), "a score by the next bit", n, len);
         scores_checked++;
     }
 }
 
-/* ---- lists, of prefixes as numbers */
+/* ---- ceilings */
 
-struct entry {
-    size_t prefix;
-    int32_t score;
+/* What must be met, or equal ceilings would show little: one above the first score; one
+ * equal to it where lower scores were dropped, and this at stop n; one above it that no
+ * score dropped at the last clear position reaches; one above it that the lowest scores
+ * dropped at each position do not reach. */
+enum { ABOVE, EQUAL, BEST_WORD, EARLIER, BESIDE_LOWER, EVENTS };
+
+static const char *const event_name[EVENTS] = {"above the first score", "equal to it with lower ones dropped",
+                                               "so at stop n", "from before the last clear position",
+                                               "with lower ones dropped beside it"};
+static unsigned long events[EVENTS];
+
+/* The highest score dropped from position first on, below stop; INT32_MIN if none was. */
+static int32_t highest_dropped(const struct step *steps, size_t first, size_t stop)
+{
+    int32_t most = INT32_MIN;
+    for (size_t at = first; at < stop; at++)
+        for (size_t x = steps[at + 1].live; x < steps[at + 1].count; x++)
+            most = larger(most, steps[at + 1].child[x].score);
+    return most;
+}
+
+static void count_events(const struct step *steps, const uint8_t *map, size_t n, size_t stop)
+{
+    int32_t score = steps[stop].child[0].score, dropped = highest_dropped(steps, 0, stop), lowest = INT32_MIN;
+    size_t last = stop; /* one past the last clear position */
+    while (last > 0 && reference_frozen(map, last - 1))
+        last--;
+    for (size_t p = 1; p <= stop; p++)
+        if (steps[p].count > steps[p].live)
+            lowest = larger(lowest, steps[p].child[steps[p].count - 1].score);
+    int above = dropped > score, equal = dropped != INT32_MIN && dropped < score;
+    events[ABOVE] += (unsigned long)above;
+    events[EQUAL] += (unsigned long)equal;
+    events[BEST_WORD] += equal && stop == n;
+    events[EARLIER] += above && highest_dropped(steps, last - 1, stop) < dropped;
+    events[BESIDE_LOWER] += above && lowest < dropped;
+}
+
+/* ---- blocks, each decoded to every stop position */
+
+struct block {
+    uint32_t m;
+    size_t n, l;
+    uint8_t map[ENUMERATED_MAX_N / 8];
+    int16_t soft[ENUMERATED_MAX_N], taken[ENUMERATED_MAX_N];
+    int32_t best; /* of its code */
 };
 
-static int compare_entries(const void *x, const void *y)
+static void draw_block(struct block *b, uint32_t m)
 {
-    const struct entry *a = x, *b = y;
-    if (a->score != b->score)
-        return a->score > b->score ? -1 : 1;
-    return a->prefix < b->prefix ? -1 : a->prefix > b->prefix;
-}
-
-/* The list after stop positions by the letter of the rules; its length. */
-static size_t enumerated_list(size_t n, const uint8_t *map, size_t l, size_t stop, const int16_t *soft,
-                              struct entry *list)
-{
-    size_t count = 1;
-    list[0].prefix = 0;
-    list[0].score = enumerated_score(n, soft, NULL, 0);
-    for (size_t at = 0; at < stop; at++) {
-        struct entry children[2 * PAPER_MAX_LIST];
-        size_t born = 0;
-        for (size_t r = 0; r < count; r++) {
-            for (size_t bit = 0; bit < (reference_frozen(map, at) ? 1 : 2); bit++, born++) {
-                uint8_t u[16];
-                children[born].prefix = 2 * list[r].prefix + bit;
-                bits_of(children[born].prefix, at + 1, u);
-                children[born].score = enumerated_score(n, soft, u, at + 1);
-            }
-        }
-        qsort(children, born, sizeof children[0], compare_entries);
-        count = born < l ? born : l;
-        memcpy(list, children, count * sizeof list[0]);
-    }
-    return count;
-}
-
-static void check_list(uint32_t m)
-{
-    static uint32_t numbers[32 * 16 * PAPER_MAX_LIST];
-    static uint8_t bytes[(4 * 16 + 256) * PAPER_MAX_LIST];
-    uint8_t inputs[16 * PAPER_MAX_LIST], words[16 * PAPER_MAX_LIST], map[2] = {0}, u[16] = {0}, word[16];
-    int32_t scores[PAPER_MAX_LIST];
-    int16_t soft[16], taken[16];
-    struct entry list[PAPER_MAX_LIST];
-    size_t n = (size_t)1 << m, l = 1 + draw_below(PAPER_MAX_LIST), stop = draw_below(n + 1), share = draw_below(9);
-    draw_soft(soft, n);
-    for (size_t i = 0; i < n; i++) {
-        map[i / 8] |= (uint8_t)((draw_below(8) < share) << (i % 8));
+    size_t share = draw_below(9);
+    *b = (struct block){.m = m, .n = (size_t)1 << m, .l = 1 + draw_below(draw_below(2) ? 4 : PAPER_MAX_LIST)};
+    draw_soft(b->soft, b->n);
+    for (size_t i = 0; i < b->n; i++) {
+        b->map[i / 8] |= (uint8_t)((draw_below(8) < share) << (i % 8));
         if (draw_below(8) == 0)
-            soft[i] = -2048;
-        taken[i] = held(soft[i]);
+            b->soft[i] = -2048;
+        b->taken[i] = held(b->soft[i]);
     }
-    size_t count = enumerated_list(n, map, l, stop, taken, list);
-    int32_t rows = paper_decode(m, map, (n + 7) / 8, (uint32_t)l, (uint32_t)stop, soft, n,
-                                numbers, 32 * n * l, bytes, (4 * n + 256) * l,
-                                inputs, n * l, words, n * l, scores, l);
-    need(rows == (int32_t)count, "the row count", n, stop);
-    for (size_t r = 0; r < count; r++) {
-        bits_of(list[r].prefix, stop, u);
+    b->best = enumerated_best(b->n, b->map, b->taken);
+}
+
+static void check_list(const struct block *b, const struct step *steps, size_t stop)
+{
+    static uint32_t numbers[32 * ENUMERATED_MAX_N * PAPER_MAX_LIST];
+    static uint8_t bytes[(4 * ENUMERATED_MAX_N + 256) * PAPER_MAX_LIST];
+    uint8_t inputs[ENUMERATED_MAX_N * PAPER_MAX_LIST], words[ENUMERATED_MAX_N * PAPER_MAX_LIST];
+    uint8_t u[ENUMERATED_MAX_N] = {0}, word[ENUMERATED_MAX_N];
+    int32_t scores[PAPER_MAX_LIST];
+    size_t n = b->n, l = b->l;
+    struct paper_decoded answer =
+        paper_decode(b->m, b->map, (n + 7) / 8, (uint32_t)l, (uint32_t)stop, b->soft, n, numbers, 32 * n * l, bytes,
+                     (4 * n + 256) * l, inputs, n * l, words, n * l, scores, l);
+    need(answer.refusal == 0 && answer.rows == steps[stop].live, "the row count", n, stop);
+    for (size_t r = 0; r < answer.rows; r++) {
+        bits_of(steps[stop].child[r].prefix, stop, u);
         reference_transform(n, u, word);
         need(memcmp(inputs + r * n, u, n) == 0, "an input row", n, stop);
         need(memcmp(words + r * n, word, n) == 0, "a code row", n, stop);
-        need(scores[r] == list[r].score, "a row's score", n, stop);
+        need(scores[r] == steps[stop].child[r].score, "a row's score", n, stop);
     }
+    int32_t ceiling = larger(steps[stop].child[0].score, highest_dropped(steps, 0, stop));
+    need(answer.ceiling == ceiling, "the ceiling", n, stop);
+    need(b->best <= ceiling, "a word of the code above the ceiling", n, stop);
+    if (stop == n && ceiling == scores[0])
+        need(paper_correlation(n, b->taken, words) == b->best, "a first row that is no best word", n, stop);
     lists_checked++;
+}
+
+static void check_block(uint32_t m)
+{
+    struct step steps[ENUMERATED_MAX_N + 1];
+    struct block b;
+    draw_block(&b, m);
+    enumerated_lists(b.n, b.map, b.l, b.taken, steps);
+    for (size_t stop = 0; stop <= b.n; stop++) {
+        check_list(&b, steps, stop);
+        count_events(steps, b.map, b.n, stop);
+    }
+}
+
+static int report(void)
+{
+    int reached = 1;
+    printf("ceilings");
+    for (size_t event = 0; event < EVENTS; event++) {
+        printf("%s %s %lu", event == 0 ? "" : ",", event_name[event], events[event]);
+        reached &= events[event] > 0;
+    }
+    printf("\n");
+    return reached;
 }
 
 int main(int argc, char **argv)
@@ -219,11 +239,15 @@ int main(int argc, char **argv)
         check_next_bit(n);
     }
     for (int round = 0; round < 2000; round++) {
-        check_list(2);
-        check_list(3);
+        check_block(2);
+        check_block(3);
     }
     for (int round = 0; round < 10; round++)
-        check_list(4);
+        check_block(4);
+    if (!report()) {
+        printf("check_paper_decoder: FAILED: some kind of ceiling was never met (seed %lu)\n", seed);
+        return 1;
+    }
     printf("check_paper_decoder: %lu scores and %lu lists agree (seed %lu)\n", scores_checked, lists_checked, seed);
     return 0;
 }

@@ -52,6 +52,8 @@ static void try_numbers(uint32_t m)
     for (uint32_t l = 1; l <= 32; l += 31) {
         decoder_call_good(&c, m, CODE_FEW_CLEAR, SOFT_TIES, l, n);
         check_as(&c, m, 0);
+        decoder_call_good(&c, m, CODE_FEW_CLEAR, SOFT_CLEAN, l, n);
+        check_as(&c, m, 0);
     }
     for (size_t which = 0; which < BAD_STOPS; which++) {
         quick_call(&c, m);
@@ -143,13 +145,13 @@ static enum soft_kind any_soft(void)
     return (enum soft_kind)(draw_below(2) ? draw_below(SOFT_SMALL) : SOFT_SMALL + draw_below(SOFT_KINDS - SOFT_SMALL));
 }
 
-/* n + 1 stop positions and 32 list sizes have no common divisor: in turn they make
- * every pair. */
-static void try_short_blocks(uint32_t m, unsigned long count)
+/* n + 1 stop positions and a power of two of list sizes have no common divisor: in turn
+ * they make every pair. */
+static void try_short_blocks(uint32_t m, uint32_t list_sizes, unsigned long count)
 {
     for (unsigned long i = 0; i < count; i++) {
         struct decoder_call c;
-        decoder_call_good(&c, m, (enum code_kind)draw_below(CODE_KINDS), any_soft(), (uint32_t)(1 + i % 32),
+        decoder_call_good(&c, m, (enum code_kind)draw_below(CODE_KINDS), any_soft(), (uint32_t)(1 + i % list_sizes),
                           (uint32_t)(i % ((1u << m) + 1)));
         decoder_check(&c, m);
     }
@@ -205,8 +207,10 @@ static void try_all(unsigned long rounds)
         try_soft_values(m);
         try_faults(m, rounds);
     }
-    for (uint32_t m = 2; m <= 5; m++)
-        try_short_blocks(m, 64 * rounds);
+    for (uint32_t m = 2; m <= 5; m++) {
+        try_short_blocks(m, 32, 64 * rounds);
+        try_short_blocks(m, 4, 16 * rounds); /* lists so short that short blocks drop too */
+    }
     try_middle_blocks(6, 32 + 4 * rounds);
     try_middle_blocks(7, 8 + 5 * rounds / 4);
     try_middle_blocks(8, 4 + 3 * rounds / 5);

@@ -22,6 +22,12 @@ static unsigned long seed, runs, kinds[JOB_KINDS], answers[ANSWERS]; /* answer 0
 static unsigned long served_m[SERVED_M + 1], served_list[SERVED_LIST + 1], served_fields[JOB_FIELD_SETS];
 static unsigned long in_pieces;
 
+/* What the ceilings of served blocks must be met as, once each at least: signs and 0 for
+ * how the number is printed, and above the first score, where no row has it. */
+enum { NEGATIVE, ZERO, POSITIVE, ABOVE, CEILINGS };
+static const char *const ceiling_name[CEILINGS] = {"negative", "0", "positive", "above the first score"};
+static unsigned long ceilings[CEILINGS];
+
 static void fail(const uint8_t *input, size_t len, const char *what)
 {
     printf("compare_program: %s\n  input of %zu bytes", what, len);
@@ -67,6 +73,16 @@ static uint32_t answer_of(const char *want)
     return strncmp(want, "refused ", 8) == 0 ? (uint32_t)strtoul(want + 8, NULL, 10) : 0;
 }
 
+/* Takes the ceiling and the first score from an output that the reference gives. */
+static void count_ceiling(const char *want)
+{
+    long ceiling, score;
+    if (sscanf(want, "frame %*u rows %*u ceiling %ld 0 %ld", &ceiling, &score) != 2)
+        return;
+    ceilings[ceiling < 0 ? NEGATIVE : ceiling == 0 ? ZERO : POSITIVE]++;
+    ceilings[ABOVE] += ceiling > score;
+}
+
 static void check(const struct job_record *r)
 {
     char want[REFERENCE_OUTPUT_ROOM];
@@ -77,6 +93,7 @@ static void check(const struct job_record *r)
     run(r->bytes, r->len, want, want_len);
     kinds[r->kind]++;
     answers[answer]++;
+    count_ceiling(want);
     if (answer == 0 && r->refusal == 0) {
         served_m[r->m]++;
         served_list[r->list_size]++;
@@ -109,14 +126,22 @@ static void run_long(size_t len, uint8_t first, uint8_t second, const char *want
 static void run_examples(void)
 {
     run_text("\x01\x02\x02\x03\x05\x00\xfd\xff\x02\x00\x07\x00", 12,
-             "frame 0 rows 2\n0 13 0010 0110\n1 11 0000 0000\n");
+             "frame 0 rows 2 ceiling 13\n0 13 0010 0110\n1 11 0000 0000\n");
     run_text("\x04\x02\xff\xff\xff\xff\x03\x05\x00\xfd\xff\x02\x00\x07\x00", 15,
-             "frame 4294967295 rows 4\n0 13 0010 0110\n1 11 0000 0000\n2 -11 0001 1111\n3 -13 0011 1001\n");
+             "frame 4294967295 rows 4 ceiling 13\n"
+             "0 13 0010 0110\n1 11 0000 0000\n2 -11 0001 1111\n3 -13 0011 1001\n");
     run_text("\x07\x02\x02\x00\x00\x00\x00\x00\x80\x03\x05\x00\xfd\xff\x02\x00\x07\x00", 18,
-             "frame 2147483648 rows 1\n0 17 0000 0000\n");
-    run_text("\x00\x02\x0f\x01\xf8\x01\xf8\x01\xf8\x01\xf8", 11, "frame 0 rows 1\n0 -8188 0000 0000\n");
-    run_text("\x00\x02\x0f\x00\xf8\x00\xf8\x00\xf8\x00\xf8", 11, "frame 0 rows 1\n0 -8188 0000 0000\n");
-    run_text("\x00\x02\x0f\xff\x07\xff\x07\xff\x07\xff\x07", 11, "frame 0 rows 1\n0 8188 0000 0000\n");
+             "frame 2147483648 rows 1 ceiling 17\n0 17 0000 0000\n");
+    run_text("\x01\x02\x01\x0e\x01\x00\xfb\xff\x02\x00\x02\x00", 12,
+             "frame 0 rows 1 ceiling 8\n0 -2 1000 1000\n");
+    run_text("\x01\x02\x02\x0e\x01\x00\xfb\xff\x02\x00\x02\x00", 12,
+             "frame 0 rows 2 ceiling 0\n0 0 0000 0000\n1 -2 1000 1000\n");
+    run_text("\x00\x02\x0f\x01\xf8\x01\xf8\x01\xf8\x01\xf8", 11,
+             "frame 0 rows 1 ceiling -8188\n0 -8188 0000 0000\n");
+    run_text("\x00\x02\x0f\x00\xf8\x00\xf8\x00\xf8\x00\xf8", 11,
+             "frame 0 rows 1 ceiling -8188\n0 -8188 0000 0000\n");
+    run_text("\x00\x02\x0f\xff\x07\xff\x07\xff\x07\xff\x07", 11,
+             "frame 0 rows 1 ceiling 8188\n0 8188 0000 0000\n");
     run_text("\x00\x02\x0f\x00\x00\xff\xf7\x00\x00\x00\x00", 11, "refused 7\n");
     run_text("", 0, "refused 13\n");
     run_text("\x00", 1, "refused 13\n");
@@ -201,6 +226,12 @@ static int report(void)
         reached &= answers[possible[i]] > 0;
     }
     printf("\n");
+    printf("served with a ceiling");
+    for (size_t kind = 0; kind < CEILINGS; kind++) {
+        printf("%s %s: %lu", kind == 0 ? "" : ",", ceiling_name[kind], ceilings[kind]);
+        reached &= ceilings[kind] > 0;
+    }
+    printf("\n");
     reached &= reached_all("served with m", served_m, 2, SERVED_M);
     reached &= reached_all("served with list size", served_list, 1, SERVED_LIST);
     reached &= reached_all("served with fields", served_fields, 0, JOB_FIELD_SETS - 1);
@@ -236,7 +267,8 @@ int main(int argc, char **argv)
     run_limits();
     run_records(records);
     if (!report()) {
-        printf("compare_program: FAILED: a kind or an answer never came, or too few were served (seed %lu)\n", seed);
+        printf("compare_program: FAILED: some record, answer or ceiling never came, or too few were served (seed %lu)\n",
+               seed);
         return 1;
     }
     printf("compare_program: %lu runs agree, %lu of them with the input in two pieces (seed %lu)\n", runs, in_pieces,

@@ -62,7 +62,8 @@ static int16_t draw_soft(int most)
     return (int16_t)((int)draw_below((size_t)(2 * most + 1)) - most);
 }
 
-static void make_noisy(struct decoder_call *c)
+/* A word of the code at magnitude 20, with noise up to the one given. */
+static void make_noisy(struct decoder_call *c, int noise)
 {
     uint8_t u[DECODER_MAX_N], word[DECODER_MAX_N];
     size_t n = size_of(c);
@@ -70,12 +71,12 @@ static void make_noisy(struct decoder_call *c)
         u[i] = (uint8_t)(reference_frozen(c->map, i) ? 0 : draw_below(2));
     reference_transform(n, u, word);
     for (size_t i = 0; i < n; i++)
-        c->soft[i] = (int16_t)((word[i] ? -20 : 20) + draw_soft(40));
+        c->soft[i] = (int16_t)((word[i] ? -20 : 20) + draw_soft(noise));
 }
 
 static void make_soft(struct decoder_call *c, enum soft_kind kind)
 {
-    static const int most[SOFT_KINDS] = {0, 1, 2, 20, 2047, 0, 60};
+    static const int most[SOFT_KINDS] = {0, 1, 2, 20, 2047, 0, 60, 39};
     static const int16_t ends[3] = {2047, -2047, -2048};
     c->soft_len = size_of(c);
     for (size_t i = 0; i < SOFT_ROOM; i++) {
@@ -83,8 +84,8 @@ static void make_soft(struct decoder_call *c, enum soft_kind kind)
         if (kind == SOFT_WIDE && draw_below(64) == 0)
             c->soft[i] = -2048;
     }
-    if (kind == SOFT_NOISY)
-        make_noisy(c);
+    if (kind == SOFT_NOISY || kind == SOFT_CLEAN)
+        make_noisy(c, kind == SOFT_NOISY ? 40 : 19);
 }
 
 /* ---- calls that are served */
@@ -118,6 +119,39 @@ void decoder_call_good(struct decoder_call *c, uint32_t m, enum code_kind code, 
     c->words_len = or_longer(c->words_len);
     c->scores_len = or_longer(c->scores_len);
     c->refusal = 0;
+}
+
+/* ---- what is known of them */
+
+uint32_t decoder_rows(const struct decoder_call *c)
+{
+    size_t q = reference_clear(c->map, c->stop);
+    return decoder_drops(c) ? c->list_size : (uint32_t)1 << q;
+}
+
+int decoder_drops(const struct decoder_call *c)
+{
+    size_t q = reference_clear(c->map, c->stop);
+    return q > 5 || (uint32_t)1 << q > c->list_size;
+}
+
+/* No score is above the sum of the magnitudes, and each differs from it by an even number:
+ * twice the magnitudes where a word has the other sign. Up to the first frozen position
+ * a prefix that has all signs leads. */
+const char *decoder_ceiling_fault(const struct decoder_call *c, int32_t ceiling, int32_t first_score)
+{
+    int32_t most = 0;
+    for (size_t i = 0; i < size_of(c); i++)
+        most += c->soft[i] == -2048 ? 2047 : abs(c->soft[i]);
+    if (ceiling < first_score)
+        return "the ceiling is below the first score";
+    if (ceiling > most || (most - ceiling) % 2 != 0)
+        return "the ceiling is no correlation of any word";
+    if (ceiling != first_score && !decoder_drops(c))
+        return "the ceiling is not the first score, and nothing was dropped";
+    if (ceiling != most && reference_clear(c->map, c->stop) == c->stop)
+        return "the ceiling is not the sum of the magnitudes, and no position below the stop is frozen";
+    return NULL;
 }
 
 /* ---- faults, each of which says if this call can have it */

@@ -19,9 +19,12 @@ enum { MAP_ROOM = 512, SOFT_ROOM = 4 * DECODER_MAX_N };
 enum code_kind { CODE_OPEN, CODE_SHUT, CODE_MIXED, CODE_FRONT, CODE_BACK, CODE_POLAR, CODE_FEW_CLEAR, CODE_KINDS };
 
 /* Soft values: all 0; of magnitude 0 and 1; 0 to 2; 0 to 20; -2048 to 2047; the ends
- * -2048, -2047 and 2047 alone; noise round a word of the code. With the first three
+ * -2048, -2047 and 2047 alone; noise round a word of the code; the signs of a word of
+ * the code, so that it is the best one and the list never loses it. With the first three
  * scores tie often. */
-enum soft_kind { SOFT_ZERO, SOFT_UNITS, SOFT_TIES, SOFT_SMALL, SOFT_WIDE, SOFT_ENDS, SOFT_NOISY, SOFT_KINDS };
+enum soft_kind {
+    SOFT_ZERO, SOFT_UNITS, SOFT_TIES, SOFT_SMALL, SOFT_WIDE, SOFT_ENDS, SOFT_NOISY, SOFT_CLEAN, SOFT_KINDS
+};
 
 struct decoder_call {
     uint32_t m, list_size, stop;
@@ -43,6 +46,15 @@ void decoder_call_trim(struct decoder_call *c);
  * code cannot have (3, where n is not 4) is left out. The call's refusal becomes the
  * first that applies, 0 if none. */
 void decoder_call_spoil(struct decoder_call *c, unsigned faults);
+
+/* What is known of a call that is served: the number of its rows, min(l, 2^q) for q clear
+ * positions below the stop; whether prefixes are dropped, which they are if 2^q is above l. */
+uint32_t decoder_rows(const struct decoder_call *c);
+int decoder_drops(const struct decoder_call *c);
+
+/* What is wrong with the ceiling of a served call that has this first score; a null
+ * pointer if it can be so. By how the call was made alone: the paper decoder is not asked. */
+const char *decoder_ceiling_fault(const struct decoder_call *c, int32_t ceiling, int32_t first_score);
 
 /* A list size, a stop position and a soft value that are refused, at times one that
  * a narrow register takes for a good one. which is below the count given. */

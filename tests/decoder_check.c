@@ -1,9 +1,8 @@
 #include "decoder_check.h"
 
 #include "caldurrex.h"
+#include "decoder_memory.h"
 #include "decoder_tally.h"
-#include "draw.h"
-#include "lent.h"
 #include "paper_decoder.h"
 
 #include <signal.h>
@@ -19,24 +18,13 @@ _Static_assert(CALDURREX_BAD_M == 1 && CALDURREX_BAD_MAP_LENGTH == 2 && CALDURRE
 _Static_assert(CALDURREX_NUMBERS(4, 1) == 128 && CALDURREX_NUMBERS(1024, 32) == 1048576 &&
                    CALDURREX_BYTES(4, 1) == 272 && CALDURREX_BYTES(1024, 32) == 139264 && CALDURREX_ROWS(8, 3) == 24,
                "the header's sizes are those of the rules");
-
-/* What is passed to a call, in the order of its arguments; the last five are written. */
-enum { MAP, SOFT, NUMBERS, BYTES, INPUTS, WORDS, SCORES, SLICES, FIRST_WRITTEN = NUMBERS };
-
-static const struct {
-    const char *name;
-    size_t unit; /* bytes an element */
-} slices[SLICES] = {{"map", 1}, {"soft", 2}, {"numbers", 4}, {"bytes", 1}, {"inputs", 1}, {"words", 1}, {"scores", 4}};
-
-/* Rooms of 4096 bytes and of every power of two above, so that a short slice need not
- * be placed in a long room. */
-enum { SMALLEST_ROOM = 4096, ROOMS = 13 };
-static struct lent rooms[SLICES][ROOMS];
+_Static_assert(offsetof(struct caldurrex_decoded, refusal) == 0 && offsetof(struct caldurrex_decoded, rows) == 4 &&
+                   offsetof(struct caldurrex_decoded, ceiling) == 8 && sizeof(struct caldurrex_decoded) == 12,
+               "the answer is three numbers of 32 bits in this order");
 
 static struct lent *lent[SLICES]; /* the rooms of the call under way */
 static uint8_t *want[SLICES];     /* the paper decoder's outputs */
-static size_t want_len[SLICES];
-static int32_t last_answer;
+static struct caldurrex_decoded last_answer;
 
 static const struct decoder_call *under_way;
 static const char *program;
@@ -56,17 +44,17 @@ static void print_row(const char *whose, size_t n, const uint8_t *input, const u
 }
 
 /* The first row that differs from the paper decoder's. */
-static void print_difference(const struct decoder_call *c, int32_t rows)
+static void print_difference(const struct decoder_call *c, uint32_t rows)
 {
     size_t n = (size_t)1 << c->m;
-    for (size_t r = 0; r < (size_t)rows; r++) {
+    for (size_t r = 0; r < rows; r++) {
         const uint8_t *input = lent[INPUTS]->at + r * n, *word = lent[WORDS]->at + r * n;
         int32_t score, right;
         memcpy(&score, lent[SCORES]->at + 4 * r, 4);
         memcpy(&right, want[SCORES] + 4 * r, 4);
         const uint8_t *right_input = want[INPUTS] + r * n, *right_word = want[WORDS] + r * n;
         if (score != right || memcmp(input, right_input, n) != 0 || memcmp(word, right_word, n) != 0) {
-            printf("  row %zu of %ld: score, input, word\n", r, (long)rows);
+            printf("  row %zu of %lu: score, input, word\n", r, (unsigned long)rows);
             print_row("is     ", n, input, word, score);
             print_row("must be", n, right_input, right_word, right);
             return;
@@ -108,108 +96,23 @@ void decoder_check_open(const char *program_used, unsigned long seed_used)
     signal(SIGBUS, on_fault);
 }
 
-/* ---- memory */
-
-static void need(int ok, const char *what)
-{
-    if (!ok) {
-        perror(what);
-        exit(2);
-    }
-}
-
-/* A room with something left over for guard zones. */
-static struct lent *room_for(size_t slice, size_t len)
-{
-    size_t which = 0;
-    while ((size_t)SMALLEST_ROOM << which < len + 64)
-        which++;
-    need(which < ROOMS, slices[slice].name);
-    struct lent *room = &rooms[slice][which];
-    if (room->room == NULL)
-        lent_open(room, slices[slice].name, (size_t)SMALLEST_ROOM << which);
-    return room;
-}
-
-/* What lies in memory before a call: nothing but 0, nothing but 1 bits, small numbers
- * (a left-over cost or bit would look so, and would win a comparison that a large one
- * loses), or anything. */
-enum dirt { DIRT_ZERO, DIRT_ONES, DIRT_SMALL, DIRT_ANY, DIRTS };
-
-static void fill_dirty(uint8_t *to, size_t len, size_t unit, enum dirt dirt)
-{
-    if (dirt == DIRT_ANY) {
-        draw_bytes(to, len);
-        return;
-    }
-    memset(to, dirt == DIRT_ONES ? 0xff : 0, len);
-    for (size_t i = 0; dirt == DIRT_SMALL && i < len; i += unit) {
-        uint32_t number = (uint32_t)draw_below(3);
-        uint8_t byte = (uint8_t)number;
-        memcpy(to + i, unit == 4 ? (const void *)&number : &byte, unit);
-    }
-}
-
-static void place(size_t slice, const void *bytes, size_t len, enum dirt dirt)
-{
-    static uint8_t *dirty;
-    static size_t dirty_len;
-    size_t unit = slices[slice].unit;
-    if (bytes == NULL && len > 0) {
-        if (len > dirty_len) {
-            dirty = realloc(dirty, dirty_len = len);
-            need(dirty != NULL, "realloc");
-        }
-        fill_dirty(dirty, len, unit, dirt);
-        bytes = dirty;
-    }
-    lent[slice] = room_for(slice, len);
-    lent_place_aligned(lent[slice], bytes, len, unit);
-}
-
 /* ---- the call */
 
-static void lengths(const struct decoder_call *c, size_t len[SLICES])
-{
-    const size_t all[SLICES] = {c->map_len, c->soft_len, c->numbers_len, c->bytes_len,
-                                c->inputs_len, c->words_len, c->scores_len};
-    for (size_t slice = 0; slice < SLICES; slice++)
-        len[slice] = all[slice] * slices[slice].unit;
-}
-
-/* Room in want for what the call must leave in the slices that it writes. */
-static void make_want(const struct decoder_call *c)
-{
-    size_t len[SLICES];
-    lengths(c, len);
-    for (size_t slice = FIRST_WRITTEN; slice < SLICES; slice++) {
-        if (len[slice] + 1 > want_len[slice]) {
-            want[slice] = realloc(want[slice], want_len[slice] = len[slice] + 1);
-            need(want[slice] != NULL, "realloc");
-        }
-    }
-}
-
 /* The answer of the paper decoder, its outputs in want. */
-static int32_t ask_paper(const struct decoder_call *c)
+static struct paper_decoded ask_paper(const struct decoder_call *c)
 {
-    make_want(c);
+    decoder_memory_want(c, want);
     return paper_decode(c->m, c->map, c->map_len, c->list_size, c->stop, c->soft, c->soft_len,
                         (uint32_t *)(void *)want[NUMBERS], c->numbers_len, want[BYTES], c->bytes_len,
                         want[INPUTS], c->inputs_len, want[WORDS], c->words_len,
                         (int32_t *)(void *)want[SCORES], c->scores_len);
 }
 
-static int32_t ask_library(const struct decoder_call *c, const enum dirt dirt[SLICES])
+static struct caldurrex_decoded ask_library(const struct decoder_call *c, const enum dirt dirt[SLICES])
 {
-    size_t len[SLICES];
-    lengths(c, len);
-    place(MAP, c->map, len[MAP], DIRT_ANY);
-    place(SOFT, c->soft, len[SOFT], DIRT_ANY);
-    for (size_t slice = FIRST_WRITTEN; slice < SLICES; slice++)
-        place(slice, NULL, len[slice], dirt[slice]);
+    decoder_memory_place(c, dirt, lent);
     under_way = c;
-    int32_t answer = caldurrex_decode(
+    struct caldurrex_decoded answer = caldurrex_decode(
         c->m, lent[MAP]->at, c->map_len, c->list_size, c->stop, (const int16_t *)(const void *)lent[SOFT]->at,
         c->soft_len, (uint32_t *)(void *)lent[NUMBERS]->at, c->numbers_len, lent[BYTES]->at, c->bytes_len,
         lent[INPUTS]->at, c->inputs_len, lent[WORDS]->at, c->words_len, (int32_t *)(void *)lent[SCORES]->at,
@@ -218,68 +121,83 @@ static int32_t ask_library(const struct decoder_call *c, const enum dirt dirt[SL
     return answer;
 }
 
-static void judge(const struct decoder_call *c, int32_t answer, int32_t right)
+/* By construction the refusal, the row count and, where the call is refused, the ceiling
+ * are known. right, if it is not null, is what the paper decoder answers. */
+static void judge_answer(const struct decoder_call *c, const struct paper_decoded *right)
 {
-    int32_t made = c->refusal != 0 ? -(int32_t)c->refusal : decoder_rows(c);
-    if (answer != right || answer != made) {
-        char what[96];
-        snprintf(what, sizeof what, "answer %ld, by construction %ld, by the paper decoder %ld", (long)answer,
-                 (long)made, (long)right);
-        decoder_check_fail(c, what);
-    }
+    const struct caldurrex_decoded *is = &last_answer;
+    uint32_t rows = c->refusal != 0 ? 0 : decoder_rows(c);
+    int made = is->refusal == c->refusal && is->rows == rows && (c->refusal == 0 || is->ceiling == 0);
+    if (made && (right == NULL || (is->refusal == right->refusal && is->rows == right->rows &&
+                                   is->ceiling == right->ceiling)))
+        return;
+    printf("  by construction: refusal %lu, rows %lu%s\n", (unsigned long)c->refusal, (unsigned long)rows,
+           c->refusal != 0 ? ", ceiling 0" : "");
+    if (right != NULL)
+        printf("  by the paper decoder: refusal %lu, rows %lu, ceiling %ld\n", (unsigned long)right->refusal,
+               (unsigned long)right->rows, (long)right->ceiling);
+    printf("  by the library: refusal %lu, rows %lu, ceiling %ld\n", (unsigned long)is->refusal,
+           (unsigned long)is->rows, (long)is->ceiling);
+    decoder_check_fail(c, "the answer differs");
+}
+
+static void judge_memory(const struct decoder_call *c)
+{
     for (size_t slice = 0; slice < SLICES; slice++) {
         if (slice < FIRST_WRITTEN && !lent_holds(lent[slice], NULL))
             decoder_check_fail(c, "an input or its guard was written");
-        if (slice >= FIRST_WRITTEN && answer < 0 && !lent_holds(lent[slice], NULL))
+        if (slice >= FIRST_WRITTEN && c->refusal != 0 && !lent_holds(lent[slice], NULL))
             decoder_check_fail(c, "a refused call wrote");
-        if (slice >= FIRST_WRITTEN && answer > 0 && !lent_holds(lent[slice], want[slice])) {
-            print_difference(c, answer);
+        if (slice >= FIRST_WRITTEN && c->refusal == 0 && !lent_holds(lent[slice], want[slice])) {
+            print_difference(c, last_answer.rows);
             decoder_check_fail(c, slice < INPUTS ? "a table is not all 0, or its guard was written"
                                                  : "an output or its guard differs");
         }
     }
 }
 
-static void draw_dirt(enum dirt dirt[SLICES])
+/* The ceiling comes last: it is judged by the first score. */
+static void judge(const struct decoder_call *c, const struct paper_decoded *right)
 {
-    for (size_t slice = 0; slice < SLICES; slice++)
-        dirt[slice] = (enum dirt)draw_below(DIRTS);
+    judge_answer(c, right);
+    judge_memory(c);
+    struct decoder_outputs out = decoder_check_outputs();
+    const char *fault = c->refusal == 0 ? decoder_ceiling_fault(c, out.ceiling, out.scores[0]) : NULL;
+    if (fault != NULL)
+        decoder_check_fail(c, fault);
 }
 
 void decoder_check(const struct decoder_call *c, uint32_t sizes_of)
 {
     enum dirt dirt[SLICES];
-    int32_t right = ask_paper(c);
-    draw_dirt(dirt);
+    struct paper_decoded right = ask_paper(c);
+    decoder_memory_draw(dirt);
     for (int time = 0; time < 2; time++) {
         last_answer = ask_library(c, dirt);
-        judge(c, last_answer, right);
-        for (size_t slice = 0; slice < SLICES; slice++) /* the second time other dirt */
-            dirt[slice] = (enum dirt)((dirt[slice] + 1 + draw_below(DIRTS - 1)) % DIRTS);
+        judge(c, &right);
+        decoder_memory_draw_other(dirt);
     }
-    decoder_tally(c, sizes_of, last_answer, (const int32_t *)(const void *)want[SCORES]);
+    decoder_tally(c, sizes_of, last_answer.ceiling, decoder_check_outputs().scores);
 }
 
 void decoder_check_served(const struct decoder_call *c, uint32_t sizes_of)
 {
     enum dirt dirt[SLICES];
-    draw_dirt(dirt);
+    decoder_memory_draw(dirt);
     last_answer = ask_library(c, dirt);
-    if (last_answer != decoder_rows(c))
-        decoder_check_fail(c, "the row count is not that of the code, the list size and the stop position");
-    make_want(c);
+    decoder_memory_want(c, want);
     for (size_t slice = FIRST_WRITTEN; slice < SLICES; slice++) {
         if (slice < INPUTS)
             memset(want[slice], 0, lent[slice]->len);
         else
             memcpy(want[slice], lent[slice]->at, lent[slice]->len);
     }
-    judge(c, last_answer, last_answer);
-    decoder_tally(c, sizes_of, last_answer, decoder_check_outputs().scores);
+    judge(c, NULL);
+    decoder_tally(c, sizes_of, last_answer.ceiling, decoder_check_outputs().scores);
 }
 
 struct decoder_outputs decoder_check_outputs(void)
 {
-    return (struct decoder_outputs){last_answer, lent[INPUTS]->at, lent[WORDS]->at,
+    return (struct decoder_outputs){last_answer.rows, last_answer.ceiling, lent[INPUTS]->at, lent[WORDS]->at,
                                     (const int32_t *)(const void *)lent[SCORES]->at};
 }

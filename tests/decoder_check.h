@@ -18,13 +18,14 @@ void decoder_check_open(const char *program, unsigned long seed);
 void decoder_check(const struct decoder_call *c, uint32_t sizes_of);
 
 /* The same once, for a call that must be served, without the paper decoder: what the
- * call leaves in its outputs is for the caller to judge. The answer, the tables, the
- * inputs and all guards are judged here. */
+ * call leaves in its outputs is for the caller to judge. The row count, the limits of the
+ * ceiling, the tables, the inputs and all guards are judged here. */
 void decoder_check_served(const struct decoder_call *c, uint32_t sizes_of);
 
 /* What the last call answered and left in its outputs. */
 struct decoder_outputs {
-    int32_t answer;
+    uint32_t rows;
+    int32_t ceiling;
     const uint8_t *inputs, *words;
     const int32_t *scores;
 };

@@ -11,36 +11,38 @@ static const struct example {
     uint8_t map;
     uint32_t list_size, stop;
     int16_t soft[4];
-    int32_t rows;
+    uint32_t rows;
+    int32_t ceiling;
     struct {
         int32_t score;
         const char *input, *word; /* a digit for each byte */
     } row[4];
 } examples[] = {
     /* Frozen 0 and 1: the empty prefix, prefix 0 and prefix 00. */
-    {0x03, 1, 0, {5, -3, 2, 7}, 1, {{17, "0000", "0000"}}},
-    {0x03, 1, 1, {5, -3, 2, 7}, 1, {{13, "0000", "0000"}}},
-    {0x03, 1, 2, {5, -3, 2, 7}, 1, {{13, "0000", "0000"}}},
+    {0x03, 1, 0, {5, -3, 2, 7}, 1, 17, {{17, "0000", "0000"}}},
+    {0x03, 1, 1, {5, -3, 2, 7}, 1, 13, {{13, "0000", "0000"}}},
+    {0x03, 1, 2, {5, -3, 2, 7}, 1, 13, {{13, "0000", "0000"}}},
     /* The same to its end. */
-    {0x03, 1, 4, {5, -3, 2, 7}, 1, {{13, "0010", "0110"}}},
-    {0x03, 2, 4, {5, -3, 2, 7}, 2, {{13, "0010", "0110"}, {11, "0000", "0000"}}},
-    {0x03, 4, 4, {5, -3, 2, 7}, 4,
+    {0x03, 1, 4, {5, -3, 2, 7}, 1, 13, {{13, "0010", "0110"}}},
+    {0x03, 2, 4, {5, -3, 2, 7}, 2, 13, {{13, "0010", "0110"}, {11, "0000", "0000"}}},
+    {0x03, 4, 4, {5, -3, 2, 7}, 4, 13,
      {{13, "0010", "0110"}, {11, "0000", "0000"}, {-11, "0001", "1111"}, {-13, "0011", "1001"}}},
-    /* Frozen 1, 2 and 3: the score of a prefix leaves the bits behind it free. */
-    {0x0e, 1, 4, {1, -5, 2, 2}, 1, {{-2, "1000", "1000"}}},
-    {0x0e, 2, 4, {1, -5, 2, 2}, 2, {{0, "0000", "0000"}, {-2, "1000", "1000"}}},
+    /* Frozen 1, 2 and 3: the score of a prefix leaves the bits behind it free. At l = 1
+     * prefix 0 is dropped at position 0, and its score is the ceiling to the end. */
+    {0x0e, 1, 4, {1, -5, 2, 2}, 1, 8, {{-2, "1000", "1000"}}},
+    {0x0e, 2, 4, {1, -5, 2, 2}, 2, 0, {{0, "0000", "0000"}, {-2, "1000", "1000"}}},
     /* Ties. */
-    {0x00, 2, 4, {0, 0, 0, 0}, 2, {{0, "0000", "0000"}, {0, "0001", "1111"}}},
+    {0x00, 2, 4, {0, 0, 0, 0}, 2, 0, {{0, "0000", "0000"}, {0, "0001", "1111"}}},
     /* Nothing frozen, nothing decoded. */
-    {0x00, 1, 0, {5, -3, 2, 7}, 1, {{17, "0000", "0000"}}},
-    {0x00, 32, 0, {5, -3, 2, 7}, 1, {{17, "0000", "0000"}}},
+    {0x00, 1, 0, {5, -3, 2, 7}, 1, 17, {{17, "0000", "0000"}}},
+    {0x00, 32, 0, {5, -3, 2, 7}, 1, 17, {{17, "0000", "0000"}}},
     /* k = 0. */
-    {0x0f, 4, 4, {5, -3, 2, 7}, 1, {{11, "0000", "0000"}}},
+    {0x0f, 4, 4, {5, -3, 2, 7}, 1, 11, {{11, "0000", "0000"}}},
     /* -2,048 is taken as -2,047: in the last one two rows tie, and 0110 would lead with
      * 13 to 11 if it were not. */
-    {0x00, 1, 4, {-2048, -2048, -2048, -2048}, 1, {{8188, "0001", "1111"}}},
-    {0x0e, 2, 4, {-2048, 2047, 5, 0}, 2, {{4099, "1000", "1000"}, {5, "0000", "0000"}}},
-    {0x03, 2, 4, {5, -2048, 2047, 7}, 2, {{12, "0000", "0000"}, {12, "0010", "0110"}}},
+    {0x00, 1, 4, {-2048, -2048, -2048, -2048}, 1, 8188, {{8188, "0001", "1111"}}},
+    {0x0e, 2, 4, {-2048, 2047, 5, 0}, 2, 4099, {{4099, "1000", "1000"}, {5, "0000", "0000"}}},
+    {0x03, 2, 4, {5, -2048, 2047, 7}, 2, 12, {{12, "0000", "0000"}, {12, "0010", "0110"}}},
 };
 
 static int row_is(const struct decoder_outputs *out, size_t r, int32_t score, const char *input, const char *word)
@@ -59,9 +61,11 @@ static void check_rows(const struct example *e)
     memcpy(c.soft, e->soft, sizeof e->soft);
     decoder_check(&c, 2);
     struct decoder_outputs out = decoder_check_outputs();
-    if (out.answer != e->rows)
+    if (out.rows != e->rows)
         decoder_check_fail(&c, "the row count of an example of the rules differs");
-    for (size_t r = 0; r < (size_t)e->rows; r++)
+    if (out.ceiling != e->ceiling)
+        decoder_check_fail(&c, "the ceiling of an example of the rules differs");
+    for (size_t r = 0; r < e->rows; r++)
         if (!row_is(&out, r, e->row[r].score, e->row[r].input, e->row[r].word))
             decoder_check_fail(&c, "a row of an example of the rules differs");
 }
@@ -123,7 +127,7 @@ static void check_largest(void)
     struct decoder_call c;
     decoder_call_good(&c, 10, CODE_SHUT, SOFT_SMALL, 32, 1024);
     decoder_check(&c, 10);
-    if (decoder_check_outputs().answer != 1)
+    if (decoder_check_outputs().rows != 1)
         decoder_check_fail(&c, "k = 0 does not give one row");
     decoder_call_good(&c, 10, CODE_FEW_CLEAR, SOFT_SMALL, 32, 1024);
     decoder_call_trim(&c);

@@ -10,6 +10,13 @@ enum { NONE_FROZEN, SOME_FROZEN, ALL_FROZEN, CUTS, TIES, EVENTS };
 static const char *const event_name[EVENTS] = {"no position frozen", "some positions frozen", "all positions frozen",
                                                "prefixes cut", "equal scores"};
 
+/* Ceilings. Where prefixes were dropped: above the first score; equal to it, at a stop
+ * position below n and at n, where the first row is thus known as a best word. And those
+ * of calls that dropped none. */
+enum { ABOVE, EQUAL, EQUAL_AT_N, NONE_DROPPED, CEILINGS };
+
+static const char *const ceiling_name[CEILINGS] = {"above", "equal", "best", "whole"};
+
 /* The ranges of m for which list sizes and events are counted. */
 static const struct range {
     uint32_t first, last;
@@ -18,6 +25,7 @@ enum { RANGES = sizeof ranges / sizeof ranges[0] };
 
 static unsigned long calls, answers[DECODER_MAX_M + 1][DECODER_REFUSALS + 1]; /* place 0: accepted */
 static unsigned long stops[DECODER_MAX_M + 1][(1 << ALL_STOPS_M) + 1];
+static unsigned long ceilings[DECODER_MAX_M + 1][CEILINGS];
 static unsigned long list_sizes[RANGES][DECODER_MAX_LIST + 1], events[RANGES][EVENTS];
 
 static size_t stop_kinds(uint32_t m)
@@ -33,38 +41,35 @@ static size_t stop_kind(uint32_t m, uint32_t stop)
     return stop == n ? 2 : stop == n - 1 ? 3 : 4 + stop % 2;
 }
 
-static size_t clear_below(const struct decoder_call *c, size_t stop)
+static size_t ceiling_kind(const struct decoder_call *c, int32_t ceiling, int32_t first_score)
 {
-    return reference_clear(c->map, stop);
+    if (!decoder_drops(c))
+        return NONE_DROPPED;
+    return ceiling > first_score ? ABOVE : c->stop < (uint32_t)1 << c->m ? EQUAL : EQUAL_AT_N;
 }
 
-int32_t decoder_rows(const struct decoder_call *c)
+static void tally_accepted(const struct decoder_call *c, int32_t ceiling, const int32_t *scores)
 {
-    size_t q = clear_below(c, c->stop);
-    return (int32_t)(q < 6 && (uint32_t)1 << q < c->list_size ? (uint32_t)1 << q : c->list_size);
-}
-
-static void tally_accepted(const struct decoder_call *c, int32_t rows, const int32_t *scores)
-{
-    size_t n = (size_t)1 << c->m, clear = clear_below(c, n), range = 0, q = clear_below(c, c->stop);
+    size_t n = (size_t)1 << c->m, clear = reference_clear(c->map, n), range = 0;
     while (c->m > ranges[range].last)
         range++;
     stops[c->m][stop_kind(c->m, c->stop)]++;
+    ceilings[c->m][ceiling_kind(c, ceiling, scores[0])]++;
     list_sizes[range][c->list_size]++;
     events[range][clear == 0 ? ALL_FROZEN : clear == n ? NONE_FROZEN : SOME_FROZEN]++;
-    events[range][CUTS] += q > 5 || (uint32_t)1 << q > c->list_size;
+    events[range][CUTS] += (unsigned long)decoder_drops(c);
     int ties = 0;
-    for (int32_t r = 1; r < rows; r++)
+    for (size_t r = 1; r < decoder_rows(c); r++)
         ties |= scores[r] == scores[r - 1];
     events[range][TIES] += (unsigned long)ties;
 }
 
-void decoder_tally(const struct decoder_call *c, uint32_t sizes_of, int32_t answer, const int32_t *scores)
+void decoder_tally(const struct decoder_call *c, uint32_t sizes_of, int32_t ceiling, const int32_t *scores)
 {
     calls++;
-    answers[sizes_of][answer > 0 ? 0 : -answer]++;
-    if (answer > 0)
-        tally_accepted(c, answer, scores);
+    answers[sizes_of][c->refusal]++;
+    if (c->refusal == 0)
+        tally_accepted(c, ceiling, scores);
 }
 
 unsigned long decoder_tally_calls(void)
@@ -86,6 +91,10 @@ static int report_answers(uint32_t m)
     }
     for (size_t kind = 0; kind < stop_kinds(m); kind++)
         reached &= stops[m][kind] > 0;
+    for (size_t kind = 0; kind < CEILINGS; kind++) {
+        printf(" %6lu", ceilings[m][kind]);
+        reached &= ceilings[m][kind] > 0;
+    }
     printf("%s\n", reached ? "" : "  NOT ALL REACHED");
     return reached;
 }
@@ -116,9 +125,13 @@ int decoder_tally_report(void)
     printf("%2s %9s", "m", "accepted");
     for (int number = 1; number <= DECODER_REFUSALS; number++)
         printf(" %6d", number);
+    for (size_t kind = 0; kind < CEILINGS; kind++)
+        printf(" %6s", ceiling_name[kind]);
     printf("\n");
     for (uint32_t m = DECODER_MIN_M; m <= DECODER_MAX_M; m++)
         reached &= report_answers(m);
+    printf("ceilings with prefixes dropped: above the first score, equal to it below stop n, equal to it at n (best);\n"
+           "with none dropped: whole\n");
     for (size_t range = 0; range < RANGES; range++)
         reached &= report_range(range);
     return reached;

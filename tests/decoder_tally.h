@@ -4,19 +4,19 @@
 
 #include "decoder_calls.h"
 
-/* Counts a call that was answered rightly; scores are those of its rows. */
-void decoder_tally(const struct decoder_call *c, uint32_t sizes_of, int32_t answer, const int32_t *scores);
+/* Counts a call that was answered rightly; if it was served, with this ceiling and these
+ * scores of its rows. */
+void decoder_tally(const struct decoder_call *c, uint32_t sizes_of, int32_t ceiling, const int32_t *scores);
 
 unsigned long decoder_tally_calls(void);
 
-/* The number of rows of a served call: min(l, 2^q) for q clear positions below the stop. */
-int32_t decoder_rows(const struct decoder_call *c);
-
 /* Prints the counts. Gives 0 and says so if something was never reached: at some m an
- * accepted call, a refusal that it can have, or a kind of stop position (every one at
- * n = 4 to 32, above that 0, 1, odd and even ones, n - 1 and n); or in some range of m
- * a list size (every one up to m = 8, above that 1 and 32), a code with no, some or
- * all positions frozen, a cut of the list, or equal scores in it. */
+ * accepted call, a refusal that it can have, a kind of stop position (every one at
+ * n = 4 to 32, above that 0, 1, odd and even ones, n - 1 and n), or a kind of ceiling
+ * (above the first score; equal to it where prefixes were dropped, at stop n and before;
+ * equal to it because none was); or in some range of m a list size (every one up to
+ * m = 8, above that 1 and 32), a code with no, some or all positions frozen, a cut of
+ * the list, or equal scores in it. */
 int decoder_tally_report(void);
 
 #endif

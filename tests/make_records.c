@@ -232,16 +232,17 @@ static void print_rows(const struct record *r)
         printf("refused %u\n", (unsigned)job.refusal);
         return;
     }
-    int32_t rows = paper_decode(job.m, map, (n + 7) / 8, job.list_size, job.stop, soft, n, numbers,
-                                sizeof numbers / sizeof numbers[0], bytes, sizeof bytes, inputs, sizeof inputs, words,
-                                sizeof words, scores, MAX_LIST);
-    if (rows < 0) {
-        fprintf(stderr, "a record is read and its block is refused: %d\n", (int)-rows);
+    struct paper_decoded block =
+        paper_decode(job.m, map, (n + 7) / 8, job.list_size, job.stop, soft, n, numbers,
+                     sizeof numbers / sizeof numbers[0], bytes, sizeof bytes, inputs, sizeof inputs, words,
+                     sizeof words, scores, MAX_LIST);
+    if (block.refusal) {
+        fprintf(stderr, "a record is read and its block is refused: %u\n", (unsigned)block.refusal);
         exit(1);
     }
-    printf("record m %u l %u p %u f %u\n", (unsigned)job.m, (unsigned)job.list_size, (unsigned)job.stop,
-           (unsigned)job.frame);
-    for (size_t i = 0; i < (size_t)rows; i++) {
+    printf("record m %u l %u p %u f %u\nceiling %d\n", (unsigned)job.m, (unsigned)job.list_size, (unsigned)job.stop,
+           (unsigned)job.frame, (int)block.ceiling);
+    for (size_t i = 0; i < block.rows; i++) {
         printf("%zu %d", i, (int)scores[i]);
         print_bits(n, inputs + i * n);
         print_bits(n, words + i * n);

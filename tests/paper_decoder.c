@@ -154,6 +154,7 @@ struct list {
     size_t count;
     uint8_t bits[MAX_CHILDREN][MAX_N];
     int32_t score[MAX_CHILDREN];
+    int32_t dropped; /* the highest score dropped on the way to them; INT32_MIN if none was */
 };
 
 /* Both prefixes of x and y have len bits. */
@@ -165,7 +166,7 @@ static int goes_before(const struct list *list, size_t x, size_t y, size_t len)
 }
 
 /* to gets the first most prefixes of from in the order of the rules, or all of them
- * if there are no more. */
+ * if there are no more. The others are dropped. */
 static void keep_best(size_t n, const int16_t *soft, struct list *from, size_t len, size_t most,
                       struct list *to)
 {
@@ -182,12 +183,16 @@ static void keep_best(size_t n, const int16_t *soft, struct list *from, size_t l
         memcpy(to->bits[r], from->bits[order[r]], len);
         to->score[r] = from->score[order[r]];
     }
+    to->dropped = from->dropped;
+    for (size_t r = to->count; r < from->count; r++)
+        to->dropped = larger(to->dropped, from->score[order[r]]);
 }
 
 /* to gets every prefix of from with one more bit: 0 at a frozen position, else both. */
 static void extend(const struct list *from, size_t at, int frozen, struct list *to)
 {
     to->count = 0;
+    to->dropped = from->dropped;
     for (size_t r = 0; r < from->count; r++) {
         for (uint8_t bit = 0; bit < (frozen ? 1 : 2); bit++) {
             memcpy(to->bits[to->count], from->bits[r], at);
@@ -204,6 +209,7 @@ static const struct list *live_after(size_t n, const int16_t *soft, const uint8_
     static struct list space[2];
     struct list *live = &space[0], *other = &space[1];
     live->count = 1;
+    live->dropped = INT32_MIN;
     for (size_t at = 0; at < stop; at++) {
         extend(live, at, reference_frozen(map, at), other);
         if (other->count > list_size) {
@@ -238,25 +244,30 @@ static uint32_t decoder_refusal(uint32_t m, const uint8_t *map, size_t map_len, 
     return 0;
 }
 
-int32_t paper_decode(uint32_t m, const uint8_t *map, size_t map_len,
-                     uint32_t list_size, uint32_t stop,
-                     const int16_t *soft, size_t soft_len,
-                     uint32_t *numbers, size_t numbers_len,
-                     uint8_t *bytes, size_t bytes_len,
-                     uint8_t *inputs, size_t inputs_len,
-                     uint8_t *words, size_t words_len,
-                     int32_t *scores, size_t scores_len)
+static struct paper_decoded refused(uint32_t refusal)
+{
+    return (struct paper_decoded){refusal, 0, 0};
+}
+
+struct paper_decoded paper_decode(uint32_t m, const uint8_t *map, size_t map_len,
+                                  uint32_t list_size, uint32_t stop,
+                                  const int16_t *soft, size_t soft_len,
+                                  uint32_t *numbers, size_t numbers_len,
+                                  uint8_t *bytes, size_t bytes_len,
+                                  uint8_t *inputs, size_t inputs_len,
+                                  uint8_t *words, size_t words_len,
+                                  int32_t *scores, size_t scores_len)
 {
     uint32_t refusal = decoder_refusal(m, map, map_len, list_size, stop, soft, soft_len);
     if (refusal != 0)
-        return -(int32_t)refusal;
+        return refused(refusal);
     size_t n = (size_t)1 << m, l = list_size;
     if (numbers_len < 32 * n * l)
-        return -8;
+        return refused(8);
     if (bytes_len < (4 * n + 256) * l)
-        return -9;
+        return refused(9);
     if (inputs_len < l * n || words_len < l * n || scores_len < l)
-        return -10;
+        return refused(10);
     int16_t taken[MAX_N];
     for (size_t i = 0; i < n; i++)
         taken[i] = paper_taken(soft[i]);
@@ -271,5 +282,5 @@ int32_t paper_decode(uint32_t m, const uint8_t *map, size_t map_len,
         reference_transform(n, inputs + r * n, words + r * n);
         scores[r] = rows->score[r];
     }
-    return (int32_t)rows->count;
+    return (struct paper_decoded){0, (uint32_t)rows->count, larger(rows->score[0], rows->dropped)};
 }

@@ -121,10 +121,12 @@ static size_t put_rows(const struct reference_job *job, const uint8_t *map, cons
     static uint8_t bytes[(4 * N + 256) * L], inputs[N * L], words[N * L];
     static int32_t scores[L];
     size_t n = (size_t)1 << job->m, at = 0;
-    int32_t rows = paper_decode(job->m, map, (n + 7) / 8, job->list_size, job->stop, soft, n, numbers, 32 * N * L,
-                                bytes, sizeof bytes, inputs, sizeof inputs, words, sizeof words, scores, L);
-    at += (size_t)sprintf(out + at, "frame %lu rows %ld\n", (unsigned long)job->frame, (long)rows);
-    for (size_t r = 0; (int32_t)r < rows; r++) {
+    struct paper_decoded block =
+        paper_decode(job->m, map, (n + 7) / 8, job->list_size, job->stop, soft, n, numbers, 32 * N * L, bytes,
+                     sizeof bytes, inputs, sizeof inputs, words, sizeof words, scores, L);
+    at += (size_t)sprintf(out + at, "frame %lu rows %lu ceiling %ld\n", (unsigned long)job->frame,
+                          (unsigned long)block.rows, (long)block.ceiling);
+    for (size_t r = 0; r < block.rows; r++) {
         at += (size_t)sprintf(out + at, "%zu %ld ", r, (long)scores[r]);
         at += put_bits(out + at, n, inputs + r * n);
         out[at++] = ' ';

@@ -11,10 +11,10 @@ use lib.ListN.{take, replicate, length-replicate}
 use lib.IntN.{ℤ, pos}
 use Rattle.spec.specs.Code.{Code, code, size, mapBytes, codeTransform}
 use Rattle.spec.specs.Score.{taken}
-use Rattle.spec.specs.Decoder.{rows}
+use Rattle.spec.specs.Decoder.{rows, ceiling}
 use Rattle.spec.specs.Faults.{Fault, fault, first, settled}
 use Rattle.spec.specs.Refusals.{Room, room, decodeFaults}
-use Rattle.spec.specs.Outcome.{Answer, rowCount, refusedBy, Lent, lent, roomOf, Decoding, decoding, decodeRefusal, decodeServed, decodeOutcome}
+use Rattle.spec.specs.Outcome.{Answer, decoded, refusedBy, Lent, lent, roomOf, Decoding, decoding, decodeRefusal, decodeServed, decodeOutcome}
 use Rattle.laws.specs.FirstFault.{First, of-first}
 use Rattle.laws.specs.DecodeCall.{stop-in-range, rows-at-most}
 use Rattle.row_text.specs.Output.{refusedText, outputOf}
@@ -30,7 +30,8 @@ blockRoom = room 8192 2048 256 256 4
 
 -- a decoder call with that room
 unfoldable pub decodedText : Code → ℕ → ℕ → ℕ → List ℤ → List ℕ
-decodedText c l p frame y = settled (decodeRefusal c l p y blockRoom) refusedText (textOf frame (rows (codeTransform c) c (taken y) l p))
+decodedText c l p frame y =
+    settled (decodeRefusal c l p y blockRoom) refusedText (textOf frame (rows (codeTransform c) c (taken y) l p) (ceiling (codeTransform c) c (taken y) l p))
 
 -- the same behind the tests of n and l, with a map and soft values that stand at the front of slices
 unfoldable pub blockText : ℕ → ℕ → ℕ → ℕ → List ℕ → List ℤ → List ℕ
@@ -52,12 +53,12 @@ module _ (m l p frame : ℕ) (map : List ℕ) (y : List ℤ) where
 
 -- ---- a decoder's answer with what the call leaves: rows of n bits, as text
 abbrev pub answerText : ℕ → ℕ → Answer → List ℕ → List ℕ → List ℤ → List ℕ
-answerText frame n (rowCount r) inputs words scores = outputOf frame r n inputs words scores
+answerText frame n (decoded r top) inputs words scores = outputOf frame r top n inputs words scores
 answerText frame n (refusedBy k) inputs words scores = refusedText k
 
 -- how many rows it is
 abbrev pub rowsAnswered : Answer → ℕ
-rowsAnswered (rowCount r) = r
+rowsAnswered (decoded r top) = r
 rowsAnswered (refusedBy k) = 0
 
 -- within the limits the decoder's tables and outputs are long enough
@@ -67,7 +68,7 @@ tables-fit n l narrow few =
     (omega arith, mul-le-mul {n₁ = 4 * n + 256} {m₁ = l} {n₂ = 512} {m₂ = 4} (omega arith) few, cells)
 
 -- 4 rows of 64 bits fit the outputs and the buffer
-pub four-fit : (r n : ℕ) → r ≤ 4 → n ≤ 64 → (r * n ≤ 256) × (33 + r * (2 * n + 25) ≤ 645)
+pub four-fit : (r n : ℕ) → r ≤ 4 → n ≤ 64 → (r * n ≤ 256) × (53 + r * (2 * n + 25) ≤ 665)
 four-fit r n few narrow =
     let line : r * (2 * n + 25) ≤ 4 * 153 = mul-le-mul {n₁ = r} {m₁ = 2 * n + 25} {n₂ = 4} {m₂ = 153} few (omega arith) in
     (mul-le-mul {n₁ = r} {m₁ = n} {n₂ = 4} {m₂ = 64} few narrow, omega arith)
@@ -87,7 +88,7 @@ module _ (c : Code) (l p frame : ℕ) (y : List ℤ) where
   text o = answerText frame (size c) (o .answer) (o .left .inputs) (o .left .words) (o .left .scores)
 
   abbrev paperText : ℕ → List ℕ
-  paperText k = settled k refusedText (textOf frame (rows (codeTransform c) c (taken y) l p))
+  paperText k = settled k refusedText (textOf frame (rows (codeTransform c) c (taken y) l p) (ceiling (codeTransform c) c (taken y) l p))
 
   no-fault : 0 ≡ decodeRefusal c l p y (roomOf blockLent) → First (decodeFaults c l p y (roomOf blockLent)) 0
   unfolding decodeRefusal
@@ -99,7 +100,8 @@ module _ (c : Code) (l p frame : ℕ) (y : List ℤ) where
       ap text q ∙ by-number (decodeRefusal c l p y (roomOf blockLent)) refl ∙ ap (λ (r : Room). paperText (decodeRefusal c l p y r)) room-is
     where
       by-number : (k : ℕ) → k ≡ decodeRefusal c l p y (roomOf blockLent) → text (outcome k) ≡ paperText k
-      by-number zero e = output-of-served c (taken y) l p (stop-in-range c l p y (roomOf blockLent) (no-fault e)) frame (roomOf blockLent)
+      by-number zero e =
+          output-of-served c (taken y) l p (stop-in-range c l p y (roomOf blockLent) (no-fault e)) frame (ceiling (codeTransform c) c (taken y) l p) (roomOf blockLent)
       by-number (suc k) e = refl
 
   pub answer-rows : (o : Decoding) → o ≡ decodeOutcome c l p y blockLent → rowsAnswered (o .answer) ≤ l

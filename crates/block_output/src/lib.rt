@@ -23,11 +23,20 @@ fn write_answer(
     out: &mut [u8],
 ) -> usize
     requires { ⌜ (rowsAnswered (answerOf decoded) * n ≤ length (now inputs)) × (rowsAnswered (answerOf decoded) * n ≤ length (now words))
-        × (rowsAnswered (answerOf decoded) ≤ length (now scores)) × (33 + rowsAnswered (answerOf decoded) * (2 * n + 25) ≤ length (now out)) ⌝ }
+        × (rowsAnswered (answerOf decoded) ≤ length (now scores)) × (53 + rowsAnswered (answerOf decoded) * (2 * n + 25) ≤ length (now out)) ⌝ }
     ensures { λ r. ⌜ Begins (answerText frame n (answerOf decoded) (now (inputs .entry)) (now (words .entry)) (now (scores .entry))) (now (out .entry)) r (now (out .exit)) ⌝ }
 {
     match decoded {
-        Decoded::Rows(rows) => write_rows(frame, rows, n, inputs, words, scores, out),
+        Decoded::Rows(rows, ceiling) => write_rows(
+            frame,
+            rows,
+            ceiling,
+            n,
+            inputs,
+            words,
+            scores,
+            out,
+        ),
         Decoded::Refused(k) => write_refused(k, out),
     }
 }
@@ -42,7 +51,7 @@ fn write_decoded(
     soft: &[i16],
     out: &mut [u8],
 ) -> usize
-    requires { ⌜ (n ≡ 2 ^ m) × (n ≤ 64) × (l ≤ 4) × (645 ≤ length (now out)) ⌝ }
+    requires { ⌜ (n ≡ 2 ^ m) × (n ≤ 64) × (l ≤ 4) × (665 ≤ length (now out)) ⌝ }
     ensures { λ r. ⌜ Begins (decodedText (code m (now (map .entry))) l p frame (now (soft .entry))) (now (out .entry)) r (now (out .exit)) ⌝ }
 {
     let mut numbers = [0u32; 8192];
@@ -75,7 +84,7 @@ pub fn write_block(
     soft: &[i16],
     out: &mut [u8],
 ) -> usize
-    requires { ⌜ (m ≤ 10) × (length (now map) ≡ 128) × (length (now soft) ≡ 1024) × (645 ≤ length (now out)) ⌝ }
+    requires { ⌜ (m ≤ 10) × (length (now map) ≡ 128) × (length (now soft) ≡ 1024) × (665 ≤ length (now out)) ⌝ }
     ensures { λ r. ⌜ Begins (blockText m l p frame (now (map .entry)) (now (soft .entry))) (now (out .entry)) r (now (out .exit)) ⌝ }
 {
     let n = size(m);

@@ -1,12 +1,14 @@
-// The rows of a decoded block in the three lent outputs, from its history and its live list.
+// The rows of a decoded block in the three lent outputs and its ceiling, from its history and its live list.
 ghost use mathlib.Core.Path.{_≡_};
 ghost use Prim.Native.Nat.{_≤_};
 ghost use lib.ListN.{length};
-ghost use Rattle.block_rows.specs.BlockRows.{CostsRead, BitsWritten, BitsFit, CostsWritten, CostsFit};
+ghost use Rattle.block_rows.specs.BlockRows.{CostsRead, BitsWritten, BitsFit, CostsWritten, CostsFit, CeilingFits, ceilingFrom};
 use live::Live;
 use live::entry_cost;
+use live::lesser;
 use rows::inputs::write_inputs;
 use rows::scores::magnitude;
+use rows::scores::score_of;
 use rows::scores::write_scores;
 use rows::words::write_words;
 use slices::times;
@@ -44,10 +46,20 @@ pub fn write_bits(
     write_words(words, inputs, m, n, l, count);
 }
 
-// The scores of the entries of s.
-pub fn write_costs(scores: &mut [i32], soft: &[i16], s: Live)
+// The larger of the first score and the highest that was dropped, where total is the sum of the magnitudes.
+fn ceiling_of(s: Live, total: u32) -> i32
+    requires { ⌜ CeilingFits total s ⌝ }
+    ensures { λ r. ⌜ r ≡ ceilingFrom total s ⌝ }
+{
+    let code = s.code;
+    let least = lesser(entry_cost(code[0]), s.lost);
+    score_of(total, least)
+}
+
+// The scores of the entries of s; returns the ceiling.
+pub fn write_costs(scores: &mut [i32], soft: &[i16], s: Live) -> i32
     requires { ⌜ CostsFit (length (now scores)) (now soft) s ⌝ }
-    ensures { λ _. ⌜ CostsWritten (length (now (scores .entry))) (now (soft .entry)) s (now (scores .exit)) ⌝ }
+    ensures { λ r. ⌜ CostsWritten (length (now (scores .entry))) (now (soft .entry)) s r (now (scores .exit)) ⌝ }
 {
     let code = s.code;
     let count = s.count;
@@ -55,4 +67,5 @@ pub fn write_costs(scores: &mut [i32], soft: &[i16], s: Live)
     read_costs(&code, count, &mut costs);
     let total = magnitude(soft);
     write_scores(scores, &costs, total, count);
+    ceiling_of(s, total)
 }

@@ -1,12 +1,14 @@
 // The calls for a host written in C. A slice is a pointer and a length in elements.
+mod fields;
+
+use fields::DecodedFields;
+use fields::fields_of;
+use job::JobFields;
 ghost use mathlib.Core.Path.{_≡_};
 ghost use Rattle.spec.specs.Code.{code};
 ghost use Rattle.spec.specs.Outcome.{written, encodeOutcome, extractOutcome, lent, decodeOutcome, readOutcome};
-ghost use Rattle.decoder.specs.Answers.{answerOf};
 ghost use Rattle.job.specs.Answer.{hostReading, forHost};
-ghost use Rattle.caldurrex.specs.Numbers.{SmallAnswer, numberOf, returned, asNumber};
-use decoder::Decoded;
-use job::JobFields;
+ghost use Rattle.caldurrex.specs.Fields.{returned, asReturned};
 
 #[no_mangle]
 pub extern "C" fn caldurrex_encode(m: u32, map: &[u8], payload: &[u8], word: &mut [u8]) -> u32
@@ -24,17 +26,6 @@ pub extern "C" fn caldurrex_extract(m: u32, map: &[u8], word: &[u8], payload: &m
     extractor::extract(m, map, word, payload)
 }
 
-// The answer as one number: the rows, or minus the refusal.
-fn number_of(d: Decoded) -> i32
-    requires { ⌜ SmallAnswer (answerOf d) ⌝ }
-    ensures { λ r. ⌜ r ≡ numberOf (answerOf d) ⌝ }
-{
-    match d {
-        Decoded::Rows(r) => r as i32,
-        Decoded::Refused(k) => -(k as i32),
-    }
-}
-
 #[no_mangle]
 pub extern "C" fn caldurrex_decode(
     m: u32,
@@ -47,9 +38,9 @@ pub extern "C" fn caldurrex_decode(
     inputs: &mut [u8],
     words: &mut [u8],
     scores: &mut [i32],
-) -> i32
+) -> DecodedFields
     ensures { λ r. ⌜ returned r (lent (now (numbers .exit)) (now (bytes .exit)) (now (inputs .exit)) (now (words .exit)) (now (scores .exit)))
-        ≡ asNumber (decodeOutcome (code m (now (map .entry))) list stop (now (soft .entry)) (lent (now (numbers .entry)) (now (bytes .entry)) (now (inputs .entry)) (now (words .entry)) (now (scores .entry)))) ⌝ }
+        ≡ asReturned (decodeOutcome (code m (now (map .entry))) list stop (now (soft .entry)) (lent (now (numbers .entry)) (now (bytes .entry)) (now (inputs .entry)) (now (words .entry)) (now (scores .entry)))) ⌝ }
 {
     let d = decoder::decode(
         m,
@@ -63,7 +54,7 @@ pub extern "C" fn caldurrex_decode(
         words,
         scores,
     );
-    number_of(d)
+    fields_of(d)
 }
 
 #[no_mangle]

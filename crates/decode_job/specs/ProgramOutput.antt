@@ -3,9 +3,10 @@ use mathlib.Core.List.{List, _∷_, _++_}
 use Prim.Native.Nat.{ℕ}
 use lib.Dec.{ltb}
 use lib.ListN.{length}
+use lib.IntN.{ℤ}
 use Rattle.spec.specs.Code.{Code, code, codeTransform}
 use Rattle.spec.specs.Score.{taken}
-use Rattle.spec.specs.Decoder.{Row, rows}
+use Rattle.spec.specs.Decoder.{Row, rows, ceiling}
 use Rattle.spec.specs.Faults.{Fault, fault, first, settled}
 use Rattle.spec.specs.Record.{exponent, positions, listSize, stopPosition, frameNumber, recordMap, recordSoft, shapeFaults, fieldFaults}
 use Rattle.row_text.specs.Output.{refusedText}
@@ -20,13 +21,16 @@ recordFaults s = (shapeFaults s ++ fieldFaults s 128 1024) ++ limitFaults (posit
 abbrev pub programFaults : List ℕ → List Fault
 programFaults s = fault 13 (ltb 4096 (length s)) ∷ recordFaults s
 
--- the rows of the paper decoder for a record, which sees its soft values as they are taken
+-- the rows and the ceiling of the paper decoder for a record, which sees its soft values as they are taken
 abbrev pub recordCode : List ℕ → Code
 recordCode s = code (exponent s) (recordMap s)
 
 abbrev pub recordRows : List ℕ → List Row
 recordRows s = rows (codeTransform (recordCode s)) (recordCode s) (taken (recordSoft s)) (listSize s) (stopPosition s)
 
+abbrev pub recordCeiling : List ℕ → ℤ
+recordCeiling s = ceiling (codeTransform (recordCode s)) (recordCode s) (taken (recordSoft s)) (listSize s) (stopPosition s)
+
 -- a refusal, or a line for the frame and one for each row
 unfoldable pub programOutput : List ℕ → List ℕ
-programOutput s = settled (first (programFaults s)) refusedText (textOf (frameNumber s) (recordRows s))
+programOutput s = settled (first (programFaults s)) refusedText (textOf (frameNumber s) (recordRows s) (recordCeiling s))

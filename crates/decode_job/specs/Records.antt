@@ -8,7 +8,7 @@ use lib.ListN.{length}
 use lib.IntN.{ℤ, pos}
 use Rattle.spec.specs.Code.{codeTransform}
 use Rattle.spec.specs.Score.{taken}
-use Rattle.spec.specs.Decoder.{rows}
+use Rattle.spec.specs.Decoder.{rows, ceiling}
 use Rattle.spec.specs.Faults.{first, settled}
 use Rattle.spec.specs.Record.{positions, exponent, listSize, stopPosition, frameNumber, recordMap, recordSoft, shapeFaults, fieldFaults}
 use Rattle.spec.specs.Refusals.{tableFaults}
@@ -18,7 +18,7 @@ use Rattle.laws.specs.Taken.{taken-twice}
 use Rattle.job.specs.HandedOut.{map-at-front, soft-at-front, block-refusal}
 use Rattle.row_text.specs.Output.{refusedText}
 use Rattle.row_text.specs.RowsText.{textOf}
-use Rattle.decode_job.specs.ProgramOutput.{recordFaults, recordCode, recordRows, programOutput}
+use Rattle.decode_job.specs.ProgramOutput.{recordFaults, recordCode, recordRows, recordCeiling, programOutput}
 use Rattle.block_output.specs.Block.{limitFaults, blockRoom, decodedText, blockText, tables-fit}
 
 -- what is written for the reader's answer and what it leaves
@@ -28,7 +28,7 @@ textFor (refusedJob k) map soft = refusedText k
 
 -- the output for an input that is not too long
 unfoldable pub recordOutput : List ℕ → List ℕ
-recordOutput s = settled (first (recordFaults s)) refusedText (textOf (frameNumber s) (recordRows s))
+recordOutput s = settled (first (recordFaults s)) refusedText (textOf (frameNumber s) (recordRows s) (recordCeiling s))
 
 pub too-long : (s : List ℕ) → 4096 < length s → refusedText 13 ≡ programOutput s
 unfolding programOutput first
@@ -78,7 +78,9 @@ module _ (s : List ℕ) where
   good-record e = by-number (first (limitFaults (positions s) (listSize s))) refl ∙ ap output (tables-decide e)
     where
       text : List ℤ → List ℕ
-      text y = textOf (frameNumber s) (rows (codeTransform (recordCode s)) (recordCode s) y (listSize s) (stopPosition s))
+      text y =
+          textOf (frameNumber s) (rows (codeTransform (recordCode s)) (recordCode s) y (listSize s) (stopPosition s))
+          (ceiling (codeTransform (recordCode s)) (recordCode s) y (listSize s) (stopPosition s))
 
       output : ℕ → List ℕ
       output r = settled r refusedText (text handed)
@@ -114,7 +116,7 @@ module _ (s : List ℕ) where
             let a : refusedJob k ≡ refusedJob (suc r) = ap (λ (o : Reading). o .answer) q in
             let n : k ≡ suc r = cc in
             ap refusedText n
-            ∙ settled-refused refusedText (textOf (frameNumber s) (recordRows s)) (suc r) (first (recordFaults s))
+            ∙ settled-refused refusedText (textOf (frameNumber s) (recordRows s) (recordCeiling s)) (suc r) (first (recordFaults s))
             (first-before (shapeFaults s ++ fieldFaults s 128 1024) (limitFaults (positions s) (listSize s)) (suc r) e (λ z. omega arith)) (λ z. omega arith)
 
     pub read-record : {m l p f : ℕ} → reading (job m l p f) map′ soft′ ≡ readOutcome s map soft → blockText m l p f map′ soft′ ≡ recordOutput s

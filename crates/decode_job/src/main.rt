@@ -7,7 +7,7 @@ fn main() {
     // One byte more than the longest input that is read, so that a longer one shows.
     let mut input = [0u8; 4097];
     let n = io::read_full(0, &mut input);
-    let mut out = [0u8; 645];
+    let mut out = [0u8; 665];
     let count = write_output(&input[..n], &mut out);
     io::write_all(1, &out[..count]);
 }

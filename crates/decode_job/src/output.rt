@@ -11,7 +11,7 @@ ghost use Rattle.decode_job.specs.Records.{recordOutput};
 
 // The output for a record of a length that the program takes.
 fn write_record(input: &[u8], out: &mut [u8]) -> usize
-    requires { ⌜ 645 ≤ length (now out) ⌝ }
+    requires { ⌜ 665 ≤ length (now out) ⌝ }
     ensures { λ r. ⌜ Begins (recordOutput (now (input .entry))) (now (out .entry)) r (now (out .exit)) ⌝ }
 {
     let mut map = [0u8; 128];
@@ -25,7 +25,7 @@ fn write_record(input: &[u8], out: &mut [u8]) -> usize
 
 // Written to the front of `out`. Returns how many bytes.
 pub(crate) fn write_output(input: &[u8], out: &mut [u8]) -> usize
-    requires { ⌜ 645 ≤ length (now out) ⌝ }
+    requires { ⌜ 665 ≤ length (now out) ⌝ }
     ensures { λ r. ⌜ Begins (programOutput (now (input .entry))) (now (out .entry)) r (now (out .exit)) ⌝ }
 {
     if input.len() > 4096 {

@@ -5,6 +5,7 @@ use crate::lines::print_rows;
 use crate::print::print_byte;
 use crate::print::print_named;
 use crate::print::print_refused;
+use crate::print::print_signed;
 use code::size;
 use decoder::Decoded;
 use decoder::decode;
@@ -21,7 +22,13 @@ fn print_fields(m: u32, l: u32, p: u32, frame: u32) {
     print_byte(b'\n');
 }
 
-// How many rows there are to print.
+fn print_ceiling(ceiling: i32) {
+    io::write_all(1, b"ceiling ");
+    print_signed(ceiling);
+    print_byte(b'\n');
+}
+
+// The ceiling or the refusal is printed. Returns how many rows there are to print.
 fn row_count(decoded: Decoded) -> usize
     ensures { λ r. ⌜ r ≤ 32 ⌝ }
 {
@@ -30,7 +37,8 @@ fn row_count(decoded: Decoded) -> usize
             print_refused(k);
             0
         }
-        Decoded::Rows(rows) => {
+        Decoded::Rows(rows, ceiling) => {
+            print_ceiling(ceiling);
             if rows > 32 {
                 return 32;
             }

@@ -12,7 +12,7 @@ use Rattle.spec.specs.Refusals.{Room, decodeFaults, numberRoom, byteRoom}
 use Rattle.spec.specs.Outcome.{Lent, Decoding, decoding, refusedBy, roomOf, decodeRefusal, decodeServed, decodeOutcome}
 use Rattle.laws.specs.FirstFault.{First, none, later, of-first, inside-of, same-of, settled-refused, settled-served}
 use Rattle.laws.specs.Accepted.{accepted-of}
-use Rattle.decoder.specs.Serving.{ServeFits, Served}
+use Rattle.decoder.specs.Serving.{ServeFits}
 
 unrefused : (m l p n h : ℕ) (map : List ℕ) (soft : List ℤ) (r : Room) → n ≡ 2 ^ m → h ≡ n / 2 * l
     → First (decodeFaults (code m map) l p soft r) 0 → ServeFits m l p n h map soft r
@@ -47,7 +47,7 @@ module _ (m l p : ℕ) (map : List ℕ) (soft : List ℤ) (k : ℕ) (x : Lent) (
   unfolding decodeOutcome decodeRefusal
   refused-call n = settled-refused (λ j. decoding (refusedBy j) x) (decodeServed (code m map) l p soft (roomOf x)) k (first (decodeFaults (code m map) l p soft (roomOf x))) found n
 
-  pub served-call : k ≡ 0 → (o : Decoding) (count : ℕ) → Served o count (code m map) l p soft (roomOf x) → o ≡ decodeOutcome (code m map) l p soft x
+  pub served-call : k ≡ 0 → (o : Decoding) → o ≡ decodeServed (code m map) l p soft (roomOf x) → o ≡ decodeOutcome (code m map) l p soft x
   unfolding decodeOutcome decodeRefusal
-  served-call z o count s =
-      s .is ∙ settled-served (λ j. decoding (refusedBy j) x) (decodeServed (code m map) l p soft (roomOf x)) (first (decodeFaults (code m map) l p soft (roomOf x))) (sym z ∙ found)
+  served-call z o s =
+      s ∙ settled-served (λ j. decoding (refusedBy j) x) (decodeServed (code m map) l p soft (roomOf x)) (first (decodeFaults (code m map) l p soft (roomOf x))) (sym z ∙ found)

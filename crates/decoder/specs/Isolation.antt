@@ -11,7 +11,7 @@ use Rattle.spec.specs.Refusals.{Room}
 use Rattle.spec.specs.Outcome.{Answer, refusedBy, Lent, roomOf, Decoding, decoding, decodeRefusal, decodeServed, decodeOutcome}
 use Rattle.laws.specs.DecodeCall.{AcceptedCall, accepted-is}
 
--- what a host gets: the answer and the three outputs
+-- what a host gets: the answer, with the ceiling in it, and the three outputs
 pub record Received : Type 0 where
   pub answer : Answer
   pub inputs : List ℕ

@@ -11,7 +11,7 @@ use lib.IntN.{ℤ, pos, negsuc, natAbs, subℕ, _+ℤ_}
 use lib.Signed.{leZ}
 use Rattle.spec.specs.Code.{Code, size, codeTransform}
 use Rattle.spec.specs.Score.{taken, signed, correlation, maxℤ, largest, score}
-use Rattle.spec.specs.Decoder.{Row, live, rowOf, rows}
+use Rattle.spec.specs.Decoder.{Row, children, headOf, largestOf, droppedBy, ceilingBy, scoreOf, live, rowOf, rows, ceiling}
 use Rattle.spec.specs.Faults.{some}
 use Rattle.spec.specs.Refusals.{Room, outOfRange, decodeFaults}
 use Rattle.laws.specs.Cost.{magnitude}
@@ -70,14 +70,31 @@ unfolding score
 score-in-range c y w long range =
     omega (arith, size-largest (codeTransform c) (size c - length w) (taken y) w, magnitude-range y range)
 
--- Every score of a call that is not refused lies within ±2,047·n.
+-- Every score of a call that is not refused lies within ±2,047·n, and so does its ceiling.
 module _ (c : Code) (l p : ℕ) (soft : List ℤ) (r : Room) where
+  any-score : First (decodeFaults c l p soft r) 0 → (w : List ℕ) → InRange (size c) (scoreOf (codeTransform c) c (taken soft) l w)
+  any-score (later _ (later _ (later _ (later _ (later _ (later long (later range _))))))) w =
+      score-in-range c soft w (same-of (length soft) (size c) long) range
+
   pub row-scores-in-range : First (decodeFaults c l p soft r) 0
       → All (λ (x : Row). InRange (size c) (x .score)) (rows (codeTransform c) c (taken soft) l p)
   unfolding rows
-  row-scores-in-range (later _ (later _ (later _ (later _ (later _ (later long (later range _))))))) =
-      each (live (codeTransform c) c (taken soft) l p)
+  row-scores-in-range f = each (live (codeTransform c) c (taken soft) l p)
     where
       each : (ws : List (List ℕ)) → All (λ (x : Row). InRange (size c) (x .score)) (map (rowOf (codeTransform c) c (taken soft) l) ws)
       each [] = none
-      each (w ∷ ws) = more (score-in-range c soft w (same-of (length soft) (size c) long) range) (each ws)
+      each (w ∷ ws) = more (any-score f w) (each ws)
+
+  pub ceiling-in-range : First (decodeFaults c l p soft r) 0 → InRange (size c) (ceiling (codeTransform c) c (taken soft) l p)
+  unfolding ceilingBy
+  ceiling-in-range f = largest-of (droppedBy s (children c) l p)
+    where
+      s : List ℕ → ℤ
+      s = scoreOf (codeTransform c) c (taken soft) l
+
+      top : ℤ
+      top = s (headOf (live (codeTransform c) c (taken soft) l p))
+
+      largest-of : (ws : List (List ℕ)) → InRange (size c) (largestOf top (map s ws))
+      largest-of [] = any-score f (headOf (live (codeTransform c) c (taken soft) l p))
+      largest-of (w ∷ ws) = size-larger (s w) (largestOf top (map s ws)) (2047 * size c) (any-score f w) (largest-of ws)

@@ -5,11 +5,10 @@ use mathlib.Core.List.{List}
 use Prim.Native.Nat.{ℕ, _-_, _*_, _/_, _≤_, _^_}
 use lib.ListN.{length}
 use lib.IntN.{ℤ}
-use Rattle.spec.specs.Code.{Code, code}
+use Rattle.spec.specs.Code.{code}
 use Rattle.spec.specs.Score.{taken}
 use Rattle.spec.specs.Faults.{some}
 use Rattle.spec.specs.Refusals.{Room, outOfRange, numberRoom, byteRoom}
-use Rattle.spec.specs.Outcome.{Decoding, decodeServed}
 use Rattle.laws.specs.Accepted.{Accepted}
 use Rattle.live.specs.declared.Live.{Live}
 use Rattle.positions.specs.Running.{Ran}
@@ -34,8 +33,3 @@ pub record ServeFits (m l p n h : ℕ) (map : List ℕ) (soft : List ℤ) (room 
 pub record Stopped (m l p h : ℕ) (map : List ℕ) (soft : List ℤ) (r : Live) (t b : List ℕ) : Type 0 where
   pub few : r .count ≤ l
   pub ran : Ran (code m map) (taken soft) (m - 2) l h p r t b
-
--- what a call comes to: the paper decoder's rows, few enough for one byte
-pub record Served (o : Decoding) (count : ℕ) (c : Code) (l p : ℕ) (soft : List ℤ) (room : Room) : Type 0 where
-  pub few : count ≤ 32
-  pub is : o ≡ decodeServed c l p soft room

@@ -8,12 +8,13 @@ use code::size;
 use decode_refusals::decode_refusal;
 use slices::times;
 
+// How many rows there are and the ceiling, or the refusal number.
 pub enum Decoded {
-    Rows(u32),
+    Rows(u32, i32),
     Refused(u32),
 }
 
-// The rows of the paper decoder at stop position p for list size l, by rank: inputs, words and scores, 0 behind them.
+// The rows of the paper decoder at stop position p for list size l, by rank: inputs, words and scores, 0 behind them; and its ceiling.
 pub fn decode(
     m: u32,
     map: &[u8],
@@ -46,7 +47,7 @@ pub fn decode(
     }
     let n = size(m);
     let h = times(n / 2, l as usize);
-    let rows = serve(
+    serve(
         m,
         map,
         l as usize,
@@ -59,6 +60,5 @@ pub fn decode(
         scores,
         n,
         h,
-    );
-    Decoded::Rows(rows as u32)
+    )
 }

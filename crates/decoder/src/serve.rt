@@ -4,8 +4,10 @@ ghost use Prim.Native.Nat.{_*_};
 ghost use lib.ListN.{length, replicate};
 ghost use Rattle.spec.specs.Code.{code};
 ghost use Rattle.spec.specs.Refusals.{room};
-ghost use Rattle.spec.specs.Outcome.{decoding, rowCount, lent};
-ghost use Rattle.decoder.specs.Serving.{ServeFits, Stopped, Served};
+ghost use Rattle.spec.specs.Outcome.{decoding, lent, decodeServed};
+ghost use Rattle.decoder.specs.Answers.{answerOf};
+ghost use Rattle.decoder.specs.Serving.{ServeFits, Stopped};
+use crate::call::Decoded;
 use block_rows::write_bits;
 use block_rows::write_costs;
 use live::Live;
@@ -44,7 +46,7 @@ fn clear_tables(t: &mut [u32], b: &mut [u8])
     fill_bytes(b, 0);
 }
 
-// The row count; then the outputs hold the rows of the paper decoder and the tables are 0.
+// The row count and the ceiling; then the outputs hold the rows of the paper decoder and the tables are 0.
 pub(crate) fn serve(
     m: u32,
     map: &[u8],
@@ -58,15 +60,15 @@ pub(crate) fn serve(
     scores: &mut [i32],
     n: usize,
     h: usize,
-) -> usize
+) -> Decoded
     requires { ⌜ ServeFits m l p n h (now map) (now soft) (room (length (now t)) (length (now b)) (length (now inputs)) (length (now words)) (length (now scores))) ⌝ }
-    ensures { λ r. ⌜ Served (decoding (rowCount r) (lent (now (t .exit)) (now (b .exit)) (now (inputs .exit)) (now (words .exit)) (now (scores .exit)))) r
-        (code m (now (map .entry))) l p (now (soft .entry)) (room (length (now (t .entry))) (length (now (b .entry))) (length (now (inputs .entry))) (length (now (words .entry))) (length (now (scores .entry)))) ⌝ }
+    ensures { λ r. ⌜ decoding (answerOf r) (lent (now (t .exit)) (now (b .exit)) (now (inputs .exit)) (now (words .exit)) (now (scores .exit)))
+        ≡ decodeServed (code m (now (map .entry))) l p (now (soft .entry)) (room (length (now (t .entry))) (length (now (b .entry))) (length (now (inputs .entry))) (length (now (words .entry))) (length (now (scores .entry)))) ⌝ }
 {
     let s = decode_list(m, map, l, p, soft, t, b, n, h);
     let rows = s.count;
     write_bits(inputs, words, b, rows, m, l, p, n, h);
-    write_costs(scores, soft, s);
+    let ceiling = write_costs(scores, soft, s);
     clear_tables(t, b);
-    rows
+    Decoded::Rows(rows as u32, ceiling)
 }

@@ -7,7 +7,7 @@ use lib.ListN.{length}
 use lib.IntN.{ℤ, negsuc}
 use Rattle.spec.specs.Code.{Code, codeTransform}
 use Rattle.spec.specs.Score.{saturated, taken}
-use Rattle.spec.specs.Decoder.{rows}
+use Rattle.spec.specs.Decoder.{rows, ceiling}
 use Rattle.spec.specs.Faults.{settled, some}
 use Rattle.spec.specs.Refusals.{Room, outOfRange}
 use Rattle.spec.specs.Outcome.{refusedBy, Lent, roomOf, Decoding, decoding, decodedRows, decodeRefusal, decodeServed, decodeOutcome}
@@ -38,7 +38,7 @@ module _ (ys zs : List ℤ) (alike : taken ys ≡ taken zs) where
 
     served-alike : (r : Room) → decodeServed c l p ys r ≡ decodeServed c l p zs r
     unfolding decodeServed
-    served-alike r = ap (λ (y : List ℤ). decodedRows r (rows (codeTransform c) c y l p)) alike
+    served-alike r = ap (λ (y : List ℤ). decodedRows r (rows (codeTransform c) c y l p) (ceiling (codeTransform c) c y l p)) alike
 
     -- Two calls that differ only in soft values that are taken alike have the same outcome.
     pub taken-alike : (x : Lent) → decodeOutcome c l p ys x ≡ decodeOutcome c l p zs x

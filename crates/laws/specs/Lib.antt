@@ -8,6 +8,7 @@ pub mod Nodes
 pub mod Cells
 pub mod Bounds
 pub mod ListCost
+pub mod CeilingCost
 pub mod Inverse
 pub mod Soft
 pub mod Taken

@@ -4,7 +4,7 @@ use mathlib.Core.Bool.{Bool, true, false, not, cond, _&&_, _||_}
 use mathlib.Core.List.{List, [], _∷_, _++_}
 use Prim.Native.Nat.{ℕ, zero, suc, _+_, _-_, _*_, _^_, _<_, _≤_}
 use native.Mathlib.Omega.{arith}
-use lib.ListN.{length, length-append, take, getD, replicate, length-replicate}
+use lib.ListN.{length, length-append, take, drop, getD, replicate, length-replicate}
 use lib.IntN.{ℤ}
 use lib.Dec.{T, ltb, leb, leb→le, le→leb, ltb→lt, lt→ltb, nleb→lt}
 use lib.Arith.{lt→nleb}
@@ -43,6 +43,11 @@ module _ {A : Type 0} {P : A → Type 0} where
   all-take zero a = none
   all-take (suc n) none = none
   all-take (suc n) (more p a) = more p (all-take n a)
+
+  pub all-drop : (n : ℕ) {xs : List A} → All P xs → All P (drop n xs)
+  all-drop zero a = a
+  all-drop (suc n) none = none
+  all-drop (suc n) (more p a) = all-drop n a
 
   pub all-append : {u v : List A} → All P u → All P v → All P (u ++ v)
   all-append none q = q
@@ -131,18 +136,22 @@ module _ (T : List ℕ → List ℕ) (c : Code) (y : List ℤ) (l : ℕ) where
   pub live-long : (i : ℕ) → All (Long i) (live T c y l i)
   live-long = search-long (scoreOf T c y l) (children c) l (goes c)
 
-  family-long : (i : ℕ) → All (Long (suc i)) (families (children c i) (live T c y l i))
+  pub family-long : (i : ℕ) → All (Long (suc i)) (families (children c i) (live T c y l i))
   family-long i = families-all (children c i) (λ w. goes-long i w (goes c i w)) (live-long i)
 
--- one position of the paper decoder, by costs
+-- one position of the paper decoder, by costs: its children in order, and those that stay
 module _ (c : Code) (y : List ℤ) (l : ℕ) (ey : length y ≡ size c) where
+  pub sorted-by-cost : (i : ℕ) → i < size c → let ws : List (List ℕ) = families (children c i) (live (codeTransform c) c y l i) in
+      sortBy (ahead (scoreOf (codeTransform c) c y l)) ws ≡ sortBy (cheaper (cost (c .m) y)) ws
+  sorted-by-cost i h =
+      sort-same {P = Long (suc i)} (ahead (score (transform (c .m)) (2 ^ c .m) y)) (cheaper (cost (c .m) y))
+      (λ v w p q. ahead-cheaper (c .m) y ey v w (omega (arith, p)) (omega (arith, q)))
+      (family-long (codeTransform c) c y l i)
+
   pub live-by-cost : (i : ℕ) → i < size c
       → live (codeTransform c) c y l (suc i) ≡ take l (sortBy (cheaper (cost (c .m) y)) (families (children c i) (live (codeTransform c) c y l i)))
   unfolding liveBy
-  live-by-cost i h = ap (take l)
-      (sort-same {P = Long (suc i)} (ahead (score (transform (c .m)) (2 ^ c .m) y)) (cheaper (cost (c .m) y))
-      (λ v w p q. ahead-cheaper (c .m) y ey v w (omega (arith, p)) (omega (arith, q)))
-      (family-long (codeTransform c) c y l i))
+  live-by-cost i h = ap (take l) (sorted-by-cost i h)
 
 -- ---- and are words of bits
 pub continued-bits : (f : ℕ) (w : List ℕ) → Bits w → All Bits (continued f w)

@@ -14,6 +14,10 @@ use Rattle.spec.specs.Score.{signed, correlation, maxℤ, largest, score}
 use Rattle.laws.specs.Cost.{bitCost, wordCost, magnitude, leastCost, cost}
 use Rattle.laws.specs.Layer.{length-transform}
 
+-- the score of a prefix of this cost, where the soft values' magnitudes add up to total
+abbrev pub scoreFrom : ℕ → ℕ → ℤ
+scoreFrom total cost = pos total -ℤ pos (2 * cost)
+
 -- ---- differences of naturals
 
 add-swap : (a b c d : ℤ) → (a +ℤ b) +ℤ (c +ℤ d) ≡ (a +ℤ c) +ℤ (b +ℤ d)
@@ -108,6 +112,6 @@ module _ (T : List ℕ → List ℕ) (n : ℕ) (same : (u : List ℕ) → length
       ap₂ maxℤ (ih 0) (ih 1) ∙ max-sub (magnitude y) (leastCost T k y (w ++ 0 ∷ [])) (leastCost T k y (w ++ 1 ∷ []))
 
 pub score-is : (m : ℕ) (y : List ℤ) (w : List ℕ) → length y ≡ 2 ^ m → length w ≤ 2 ^ m
-    → score (transform m) (2 ^ m) y w ≡ pos (magnitude y) -ℤ pos (2 * cost m y w)
+    → score (transform m) (2 ^ m) y w ≡ scoreFrom (magnitude y) (cost m y w)
 unfolding score cost
 score-is m y w ey h = largest-is (transform m) (2 ^ m) (length-transform m) (2 ^ m - length w) y w ey (omega arith)

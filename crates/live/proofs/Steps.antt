@@ -7,17 +7,19 @@ use mathlib.Core.List.{List, [], _∷_, _++_, map, map-append, append-nil, appen
 use Prim.Native.Nat.{ℕ, zero, suc, _+_, _*_, _≤_, _<_}
 use native.Mathlib.Omega.{arith}
 use native.Mathlib.Nat.{le-refl}
-use lib.ListN.{length, take, getD, length-append, length-map}
+use lib.ListN.{length, take, drop, getD, length-append, length-map}
 use lib.Seq.{take-suc, take-length}
 use lib.Dec.{leb}
 use Rattle.spec.specs.Decoder.{sortBy, lexBefore, continued, families}
-use Rattle.laws.specs.ListCost.{cheaper, All, none, more, all-sort, all-take, all-append, Long}
-use Rattle.live.specs.Entries.{codeOf, placeOf, bitOf, parentOf, lexOf, branches, childrenOf}
+use Rattle.laws.specs.ListCost.{cheaper, All, none, more, all-sort, all-take, all-drop, all-append, Long}
+use Rattle.laws.specs.CeilingCost.{leastOf}
+use Rattle.live.specs.Entries.{codeOf, costOf, placeOf, bitOf, parentOf, lexOf, branches, childrenOf}
 use Rattle.live.specs.Rising.{Pairs, none₂, more₂}
-use Rattle.live.specs.Lists.{entries, entries-count}
+use Rattle.live.specs.Lists.{entries, entries-count, Holds}
+use Rattle.live.specs.Lost.{lostWith}
 use Rattle.live.specs.declared.Live.{Live}
-use Rattle.live.specs.Stands.{Rep, Bred, Step, CostsAre}
-use Rattle.live.proofs.Sorting.{all-map, all-at, pairs-of, pairs-append, sort-agree, all-under, getD-map, best-under}
+use Rattle.live.specs.Stands.{Rep, Bred, Step, CostsAre, Kept, Position}
+use Rattle.live.proofs.Sorting.{all-map, all-at, pairs-of, pairs-append, sort-agree, all-under, getD-map, map-take, map-drop, map-sort, maps-agree}
 use Rattle.live.proofs.Lexical.{lex-child, lex-lt, lex-agree, place-code, code-order}
 
 -- a child: the rank of its parent, and its bit
@@ -105,18 +107,38 @@ module _ (cost : List ℕ → ℕ) (n : ℕ) (ps : List (List ℕ)) (xs : List �
             rw (getD-map f ks i d [] h′, getD-map g ks i d 0 h′) (child-bred (getD ks i d) (all-at d i h′ good));
       }
 
-  -- the best l of any children
-  best-step : (l : ℕ) (ks : List Child) → All Ours ks → Pairs (λ (a b : Child). a .at ≤ b .at) ks
-      → Step cost (n + 1) ps (take l (sortBy (cheaper cost) (map (prefixAt ps) ks))) (take l (sortBy leb (map (codeAt cost ps xs) ks)))
-  best-step l ks good inorder =
+  -- children in order: their prefixes by cost, and their entries as numbers
+  record Sorted (ks : List Child) : Type 0 where
+    kids : List Child
+    good : All Ours kids
+    prefixes : map (prefixAt ps) kids ≡ sortBy (cheaper cost) (map (prefixAt ps) ks)
+    codes : map (codeAt cost ps xs) kids ≡ sortBy leb (map (codeAt cost ps xs) ks)
+
+  sorted : (ks : List Child) → All Ours ks → Pairs (λ (a b : Child). a .at ≤ b .at) ks → Sorted ks
+  sorted ks good inorder =
       let f = prefixAt ps in
       let g = codeAt cost ps xs in
       let leP : Child → Child → Bool = λ a b. cheaper cost (f a) (f b) in
       let leC : Child → Child → Bool = λ a b. leb (g a) (g b) in
-      let sorts : sortBy leP ks ≡ sortBy leC ks = sort-agree leP leC (pairs-of child-order good inorder) in
-      let p : map f (take l (sortBy leP ks)) ≡ take l (sortBy (cheaper cost) (map f ks)) = best-under f l (cheaper cost) ks in
-      let q : map g (take l (sortBy leC ks)) ≡ take l (sortBy leb (map g ks)) = best-under g l leb ks in
-      rw (← p, ← q, ← sorts) (stand (take l (sortBy leP ks)) (all-take l (all-sort leP good)))
+      record {
+        kids = sortBy leP ks;
+        good = all-sort leP good;
+        prefixes = map-sort f (cheaper cost) ks;
+        codes = ap (map g) (sort-agree leP leC (pairs-of child-order good inorder)) ∙ map-sort g leb ks;
+      }
+
+  -- the best l stand for their prefixes, and the others have their costs
+  best-step : (l : ℕ) {ks : List Child} → Sorted ks
+      → Step cost (n + 1) ps (take l (sortBy (cheaper cost) (map (prefixAt ps) ks))) (take l (sortBy leb (map (codeAt cost ps xs) ks)))
+  best-step l o =
+      rw (← o .prefixes, ← o .codes, ← map-take (prefixAt ps) l (o .kids), ← map-take (codeAt cost ps xs) l (o .kids))
+      (stand (take l (o .kids)) (all-take l (o .good)))
+
+  rest-costs : (l : ℕ) {ks : List Child} → Sorted ks
+      → map costOf (drop l (sortBy leb (map (codeAt cost ps xs) ks))) ≡ map cost (drop l (sortBy (cheaper cost) (map (prefixAt ps) ks)))
+  rest-costs l o =
+      rw (← o .prefixes, ← o .codes, ← map-drop (prefixAt ps) l (o .kids), ← map-drop (codeAt cost ps xs) l (o .kids))
+      (maps-agree (codeAt cost ps xs) costOf (prefixAt ps) cost (λ k g. child-bred k g .costs) (all-drop l (o .good)))
 
 -- ---- the children of the first prefixes at a position
 all-branches : {A : Type 0} (P : A → Type 0) (f : ℕ) (a b : A) → P a → P b → All P (branches f a b)
@@ -206,11 +228,24 @@ start-rep = record { counted = refl; sized = more refl none; agree = go }
     go (suc i) (suc j) h k = absurd (omega arith)
 
 -- ---- the position
-module _ (s : Live) (f l : ℕ) (cs ds ys : List ℕ) (long : length (s .code) ≡ 33) (few : s .count ≤ 32)
-    (are : ys ≡ take l (sortBy leb (childrenOf f (entries s) cs ds (s .count)))) where
-  pub position : (cost : List ℕ → ℕ) (n : ℕ) (ps : List (List ℕ)) → Rep n ps (entries s) → CostsAre cost 0 cs ps → (f ≡ 0 → CostsAre cost 1 ds ps)
-      → Step cost (n + 1) ps (take l (sortBy (cheaper cost) (families (continued f) ps))) ys
-  position cost n ps R zeros ones =
-      let h : length ps ≡ s .count = sym (R .counted) ∙ entries-count s long (omega arith) in
-      rw (are, ← all-prefixes f ps, ← all-codes f cost ps (entries s) cs ds zeros ones (s .count) h)
-      (best-step cost n ps (entries s) R (omega arith) l (childList f (length ps)) (list-good f (length ps) (length ps) (omega arith)) (list-order f (length ps)))
+module _ (f l : ℕ) (cs ds : List ℕ) (s r : Live) (long : length (s .code) ≡ 33) (few : s .count ≤ 32) where
+  abbrev children : List ℕ
+  children = sortBy leb (childrenOf f (entries s) cs ds (s .count))
+
+  -- what a list keeps and loses of the children's entries, it keeps and loses of the children
+  pub position : Holds r l (take l children) → r .lost ≡ lostWith (s .lost) (drop l children) → Position f l cs ds s r
+  position h lost = record { holds = h; keeps = keeps }
+    where
+      keeps : (cost : List ℕ → ℕ) (n : ℕ) (ps : List (List ℕ)) → Rep n ps (entries s) → CostsAre cost 0 cs ps → (f ≡ 0 → CostsAre cost 1 ds ps)
+          → Kept cost (n + 1) l ps (sortBy (cheaper cost) (families (continued f) ps)) s r
+      keeps cost n ps R zeros ones =
+          let e : length ps ≡ s .count = sym (R .counted) ∙ entries-count s long (omega arith) in
+          let p = all-prefixes f ps in
+          let q = all-codes f cost ps (entries s) cs ds zeros ones (s .count) e in
+          let o = sorted cost n ps (entries s) R (omega arith) (childList f (length ps)) (list-good f (length ps) (length ps) (omega arith)) (list-order f (length ps)) in
+          let rest : map costOf (drop l children) ≡ map cost (drop l (sortBy (cheaper cost) (families (continued f) ps)))
+          = rw (← p, ← q) (rest-costs cost n ps (entries s) R (omega arith) l o) in
+          record {
+            step = rw (h .are, ← p, ← q) (best-step cost n ps (entries s) R (omega arith) l o);
+            lost = lost ∙ ap (leastOf (s .lost)) rest;
+          }

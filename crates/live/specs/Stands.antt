@@ -1,12 +1,13 @@
 -- What it is for entries to stand for prefixes, and for one position to lead from the prefixes ps to the prefixes qs.
 use mathlib.Core.Path.{_≡_}
-use mathlib.Core.List.{List, [], _∷_, _++_}
+use mathlib.Core.List.{List, [], _∷_, _++_, map}
 use Prim.Native.Nat.{ℕ, _+_, _<_}
 use native.Mathlib.Omega.{arith}
-use lib.ListN.{length, take, getD}
+use lib.ListN.{length, take, drop, getD}
 use lib.Dec.{leb}
 use Rattle.spec.specs.Decoder.{sortBy, lexBefore, continued, families}
 use Rattle.laws.specs.ListCost.{cheaper, All, Long}
+use Rattle.laws.specs.CeilingCost.{leastOf}
 use Rattle.live.specs.declared.Live.{Live}
 use Rattle.live.specs.Entries.{costOf, placeOf, bitOf, parentOf, childrenOf}
 use Rattle.live.specs.Lists.{entries, entries-at, Holds}
@@ -33,12 +34,17 @@ pub record Step (cost : List ℕ → ℕ) (n : ℕ) (ps qs : List (List ℕ)) (x
 abbrev pub CostsAre : (List ℕ → ℕ) → ℕ → List ℕ → List (List ℕ) → Type 0
 CostsAre cost b cs ps = (i : ℕ) → i < length ps → getD cs i 0 ≡ cost (getD ps i [] ++ b ∷ [])
 
+-- of the prefixes ws in order the first l stay in the list r, children of the prefixes ps, and the costs of the others are lost
+pub record Kept (cost : List ℕ → ℕ) (n l : ℕ) (ps ws : List (List ℕ)) (s r : Live) : Type 0 where
+  pub step : Step cost n ps (take l ws) (entries r)
+  pub lost : r .lost ≡ leastOf (s .lost) (map cost (drop l ws))
+
 -- A position leads from the list s to the list r: frozen where f is not 0, else clear. The entries of r are the best l children of
--- those of s, and for any prefixes and costs of prefixes they stand for the best l of the children.
+-- those of s, and for any prefixes and costs of prefixes they stand for the best l of the children, and the others are lost.
 pub record Position (f l : ℕ) (cs ds : List ℕ) (s r : Live) : Type 0 where
   pub holds : Holds r l (take l (sortBy leb (childrenOf f (entries s) cs ds (s .count))))
-  pub step : (cost : List ℕ → ℕ) (n : ℕ) (ps : List (List ℕ)) → Rep n ps (entries s) → CostsAre cost 0 cs ps → (f ≡ 0 → CostsAre cost 1 ds ps)
-      → Step cost (n + 1) ps (take l (sortBy (cheaper cost) (families (continued f) ps))) (entries r)
+  pub keeps : (cost : List ℕ → ℕ) (n : ℕ) (ps : List (List ℕ)) → Rep n ps (entries s) → CostsAre cost 0 cs ps → (f ≡ 0 → CostsAre cost 1 ds ps)
+      → Kept cost (n + 1) l ps (sortBy (cheaper cost) (families (continued f) ps)) s r
 
 -- the entry at a rank r, as the code reads it, tells of the prefix at that rank
 pub bred-at : {cost : List ℕ → ℕ} {n : ℕ} {ps qs : List (List ℕ)} (s : Live) (r : ℕ)

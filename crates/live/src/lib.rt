@@ -4,18 +4,21 @@
 // Where a place has reached 2^26, one more bit would not fit, and the parents' places are counted anew, by rank.
 ghost use mathlib.Core.Path.{_≡_};
 ghost use mathlib.Core.List.{[], _∷_};
-ghost use Prim.Native.Nat.{_+_, _-_, _≤_, _<_};
+ghost use Prim.Native.Nat.{_+_, _-_, _≤_, _<_, min};
 ghost use lib.ListN.{length, take, getD};
 ghost use lib.Dec.{leb};
 ghost use Rattle.spec.specs.Decoder.{insertBy};
 ghost use Rattle.live.specs.Entries.{codeOf, costOf, placeOf, bitOf, parentOf, below, crowded, lexOf, branches};
 ghost use Rattle.live.specs.Rising.{Rising};
 ghost use Rattle.live.specs.Lists.{entries, insertAll, Holds, Filled};
+ghost use Rattle.live.specs.Lost.{Dropped, Cut, Spread};
 ghost use Rattle.live.specs.Stands.{Rep, Position};
 
-// The paths that are live, best first: the first `count` of `code`.
+// The paths that are live, best first: the first `count` of `code`. The least cost that was ever dropped is `lost`, 2^32 - 1 where
+// nothing was.
 pub struct Live {
     pub count: usize,
+    pub lost: u32,
     pub code: [u64; 33],
 }
 
@@ -50,6 +53,15 @@ fn entry(cost: u32, place: u64, parent: usize) -> u64
     ensures { λ r. ⌜ r ≡ codeOf cost place parent ⌝ }
 {
     (cost as u64) * 4294967296 + place * 32 + (parent as u64)
+}
+
+pub fn lesser(a: u32, b: u32) -> u32
+    ensures { λ r. ⌜ r ≡ min a b ⌝ }
+{
+    if a < b {
+        return a;
+    }
+    b
 }
 
 // Whether one of the first n entries has a place without room for one more bit.
@@ -147,27 +159,34 @@ fn put_branches(a: &mut [u64; 33], n: usize, l: usize, frozen: u8, zero: u64, on
 impl Live {
     // The empty prefix alone.
     pub fn start() -> Self
-        ensures { λ r. ⌜ Holds r 1 (0 ∷ []) × Rep 0 ([] ∷ []) (entries r) ⌝ }
+        ensures { λ r. ⌜ Holds r 1 (0 ∷ []) × Rep 0 ([] ∷ []) (entries r) × (r .lost ≡ 4294967295) ⌝ }
     {
         Self {
             count: 1,
+            lost: 4294967295,
             code: [0; 33],
         }
     }
 
-    // The list without its last entry.
-    pub fn drop(mut self) -> Self
+    // The list without its last entry, whose cost is lost.
+    pub fn drop(self) -> Self
         requires { ⌜ (0 < self .count) × (self .count ≤ 33) ⌝ }
-        ensures { λ r. ⌜ Holds r (self .count - 1) (take (self .count - 1) (entries self)) ⌝ }
+        ensures { λ r. ⌜ Dropped self r ⌝ }
     {
-        self.count = self.count - 1;
-        self
+        let last = self.count - 1;
+        let code = self.code;
+        let lost = lesser(entry_cost(code[last]), self.lost);
+        Self {
+            count: last,
+            lost,
+            code,
+        }
     }
 
     // The best l of a list of l + 1 at most: the last is dropped where there is one too many.
     pub fn cut(self, l: usize) -> Self
         requires { ⌜ (self .count ≤ l + 1) × (l ≤ 32) ⌝ }
-        ensures { λ r. ⌜ Holds r l (take l (entries self)) ⌝ }
+        ensures { λ r. ⌜ Cut l self r ⌝ }
     {
         if l < self.count {
             return self.drop();
@@ -175,12 +194,13 @@ impl Live {
         self
     }
 
-    // The children of each entry, two or, at a frozen position, one: the best l, in order.
+    // The children of each entry, two or, at a frozen position, one: the best l, in order. What is left out of them is not counted.
     fn extend(self, frozen: u8, zeros: &[u32; 32], ones: &[u32; 32], l: usize) -> Self
         requires { ⌜ (self .count ≤ 32) × (0 < l) × (l ≤ 33) ⌝ }
-        ensures { λ r. ⌜ Position frozen l (now (zeros .entry)) (now (ones .entry)) self r ⌝ }
+        ensures { λ r. ⌜ Spread frozen l (now (zeros .entry)) (now (ones .entry)) self r ⌝ }
     {
         let n = self.count;
+        let lost = self.lost;
         let code = self.code;
         let anew = is_crowded(&code, n);
         let mut out = [0u64; 33];
@@ -195,6 +215,7 @@ impl Live {
         }
         Self {
             count: m,
+            lost,
             code: out,
         }
     }
@@ -202,12 +223,12 @@ impl Live {
     // The two children of each entry, in order, as many as l + 1 of the best.
     pub fn split(self, zeros: &[u32; 32], ones: &[u32; 32], l: usize) -> Self
         requires { ⌜ (self .count ≤ 32) × (l ≤ 32) ⌝ }
-        ensures { λ r. ⌜ Position 0 (l + 1) (now (zeros .entry)) (now (ones .entry)) self r ⌝ }
+        ensures { λ r. ⌜ Spread 0 (l + 1) (now (zeros .entry)) (now (ones .entry)) self r ⌝ }
     {
         self.extend(0, zeros, ones, l + 1)
     }
 
-    // A clear position: each path splits in two, and the best l of the children stay.
+    // A clear position: each path splits in two, and the best l of the children stay. The best of the others is the one that is cut off.
     pub fn clear(self, zeros: &[u32; 32], ones: &[u32; 32], l: usize) -> Self
         requires { ⌜ (self .count ≤ 32) × (l ≤ 32) ⌝ }
         ensures { λ r. ⌜ Position 0 l (now (zeros .entry)) (now (ones .entry)) self r ⌝ }
@@ -215,9 +236,9 @@ impl Live {
         self.split(zeros, ones, l).cut(l)
     }
 
-    // A frozen position: each path goes on by the bit 0 at its new cost.
+    // A frozen position: each path goes on by the bit 0 at its new cost, and none is lost.
     pub fn freeze(self, zeros: &[u32; 32], l: usize) -> Self
-        requires { ⌜ (self .count ≤ 32) × (0 < l) × (l ≤ 32) ⌝ }
+        requires { ⌜ (self .count ≤ l) × (0 < l) × (l ≤ 32) ⌝ }
         ensures { λ r. ⌜ Position 1 l (now (zeros .entry)) (now (zeros .entry)) self r ⌝ }
     {
         self.extend(1, zeros, zeros, l)

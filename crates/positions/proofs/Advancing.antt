@@ -8,6 +8,7 @@ use lib.ListN.{length, take, drop, getD}
 use lib.IntN.{ℤ}
 use Rattle.spec.specs.Code.{Code}
 use Rattle.laws.specs.Cost.{cost}
+use Rattle.laws.specs.CeilingCost.{lostCost}
 use Rattle.windows.specs.Op.{Wrote}
 use Rattle.tables.specs.Tab.{slotStart}
 use Rattle.tables.specs.Right.{Right, cellIn}
@@ -36,7 +37,7 @@ take-same (suc k) (x ∷ b) (y ∷ b′) e h =
 module _ (c : Code) (y : List ℤ) (deep l h i at : ℕ) (s r : Live) (t b slots b′ slots′ t″ b″ slots″ : List ℕ)
     (list : l ≤ 32) (few : s .count ≤ l) (few′ : r .count ≤ l) (long : length (entries r) ≡ r .count) (low : slotStart 1 l l ≤ h) (place : at ≡ 3 * h + l * i)
     (hi : i < 2 ^ suc (suc deep)) (run : Running c y deep l h i s t b slots)
-    (step : Step (cost (c .m) y) (suc i) (prefixes c y l i) (prefixes c y l (suc i)) (entries r))
+    (step : Step (cost (c .m) y) (suc i) (prefixes c y l i) (prefixes c y l (suc i)) (entries r)) (lost : r .lost ≡ lostCost c y l (suc i))
     (set : Settled deep l h i at r b slots b′ slots′)
     (adv : Advance deep l h (r .count) i t (take (3 * h) b′) slots′ t″ (take (3 * h) b″) slots″)
     (base : Kept h t t″) (history : drop (3 * h) b″ ≡ drop (3 * h) b′) where
@@ -102,6 +103,7 @@ module _ (c : Code) (y : List ℤ) (deep l h i at : ℕ) (s r : Live) (t b slots
     counted = count-is;
     rep = step .rep;
     costs = λ k hk. bred k (omega (arith, count-is)) .costs;
+    lost = lost;
     ready = λ _ k d e m hm. subst (λ (w : List ℕ). Right k d y w (cellIn l h t″ (take (3 * h) b″) (2 ^ d) (slotW slots″ d m) (slotO slots″ d m))) (next-is m hm)
         (adv (take (3 * h) b) paths down k d e (omega arith) m hm);
     base = λ j x hj hx. base (16 * (h + j) + x) (omega arith) ∙ run .base j x hj hx;

@@ -25,16 +25,16 @@ pub record Looping (deep l h p i at : ℕ) (map t₀ b₀ t b slots : List ℕ) 
   pub running : (c : Code) (y : List ℤ) → c .map ≡ map → Call c y deep → Started deep l h y t₀ → Zeros b₀ → Running c y deep l h i s t b slots
 
 module _ (deep l h n p : ℕ) (map t₀ b₀ : List ℕ) (f : RunFits deep l h n p (length t₀) (length b₀) (length map)) where
-  pub looping-start : (at : ℕ) (slots : List ℕ) (s : Live) → at ≡ 3 * h → length slots ≡ 1024 → Zeros slots → Holds s 1 (0 ∷ []) → Rep 0 ([] ∷ []) (entries s)
+  pub looping-start : (at : ℕ) (slots : List ℕ) (s : Live) → at ≡ 3 * h → length slots ≡ 1024 → Zeros slots → Holds s 1 (0 ∷ []) → Rep 0 ([] ∷ []) (entries s) → s .lost ≡ 4294967295
       → Looping deep l h p 0 at map t₀ b₀ t₀ b₀ slots s
-  looping-start at slots s e long none holds rep = record {
+  looping-start at slots s e long none holds rep nothing = record {
     near = omega arith;
     place = omega arith;
     words = refl;
     bytes = refl;
     numbers = long;
     standing = standing-start deep l s slots (f .sizes .some) (f .sizes .deepest) (omega arith) none holds;
-    running = λ c y em call a zeros. running-start c y deep l h n s t₀ b₀ slots (f .sizes) call a zeros none holds rep;
+    running = λ c y em call a zeros. running-start c y deep l h n s t₀ b₀ slots (f .sizes) call a zeros none holds rep nothing;
   }
 
   module _ (i at : ℕ) (t b slots : List ℕ) (s : Live) (k : Looping deep l h p i at map t₀ b₀ t b slots s) (hi : i < p) where

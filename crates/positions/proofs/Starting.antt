@@ -10,6 +10,7 @@ use Rattle.spec.specs.Code.{Code}
 use Rattle.spec.specs.Decoder.{liveBy}
 use Rattle.laws.specs.Cost.{cost}
 use Rattle.laws.specs.Layer.{cost-empty}
+use Rattle.laws.specs.CeilingCost.{lost-start}
 use Rattle.tables.specs.Right.{Right, cellIn}
 use Rattle.tables.specs.Start.{Started}
 use Rattle.tables.specs.Walk.{slotW, slotO}
@@ -36,7 +37,7 @@ standing-start deep l s slots hl hd long zeros a = record {
 }
 
 module _ (c : Code) (y : List ℤ) (deep l h n : ℕ) (s : Live) (t b slots : List ℕ) (z : BlockSizes deep l h n) (call : Call c y deep) (a : Started deep l h y t)
-    (zeros : Zeros b) (none : Zeros slots) (holds : Holds s 1 (0 ∷ [])) (rep : Rep 0 ([] ∷ []) (entries s)) where
+    (zeros : Zeros b) (none : Zeros slots) (holds : Holds s 1 (0 ∷ [])) (rep : Rep 0 ([] ∷ []) (entries s)) (nothing : s .lost ≡ 4294967295) where
   first : getD (s .code) 0 0 ≡ 0
   first = sym (entries-at s 0 (omega (arith, one s holds))) ∙ ap (λ (xs : List ℕ). getD xs 0 0) (holds .are)
 
@@ -55,6 +56,7 @@ module _ (c : Code) (y : List ℤ) (deep l h n : ℕ) (s : Live) (t b slots : Li
     counted = one s holds;
     rep = rep;
     costs = costless;
+    lost = nothing ∙ sym (lost-start c y l);
     ready = λ _ k d e r hr.
         let h1 : r < 1 = omega (arith, one s holds) in
         subst (λ (w : List ℕ). Right k d y w (cellIn l h t (take (3 * h) b) (2 ^ d) (slotW slots d r) (slotO slots d r))) (sym (empty r h1))

@@ -1,10 +1,10 @@
 -- One position of the loop is one position of the paper decoder.
 use mathlib.Core.Path.{_≡_, sym, ap, subst, _∙_}
-use mathlib.Core.List.{List, [], _∷_, _++_}
+use mathlib.Core.List.{List, [], _∷_, _++_, map}
 use Prim.Native.Nat.{ℕ, suc, _+_, _*_, _<_, _^_}
 use native.Mathlib.Omega.{arith}
 use native.Mathlib.Numerals.{add-one}
-use lib.ListN.{length, take, getD}
+use lib.ListN.{length, take, drop, getD}
 use lib.Seq.{getD-take}
 use lib.IntN.{ℤ}
 use Rattle.spec.specs.Bits.{Bits, unpacked}
@@ -12,11 +12,12 @@ use Rattle.spec.specs.Code.{Code, size, frozen, codeTransform}
 use Rattle.spec.specs.Decoder.{children, continued, families, sortBy}
 use Rattle.laws.specs.Cost.{cost}
 use Rattle.laws.specs.ListCost.{cheaper, live-by-cost, live-long, live-bits, all-at}
+use Rattle.laws.specs.CeilingCost.{leastOf, lostCost, lost-more}
 use Rattle.tables.specs.Top.{topCost}
 use Rattle.tables.proofs.Reading.{top-right}
 use Rattle.live.specs.declared.Live.{Live}
 use Rattle.live.specs.Lists.{entries}
-use Rattle.live.specs.Stands.{Step}
+use Rattle.live.specs.Stands.{Step, Kept}
 use Rattle.positions.specs.Position.{Chosen}
 use Rattle.rows.specs.DecodedRows.{prefixes}
 use Rattle.positions.specs.Running.{prefixAt, Running}
@@ -34,13 +35,15 @@ pub flag-is : (c : Code) (i : ℕ) → i < size c → getD (unpacked (c .map)) i
 unfolding frozen
 flag-is c i h = sym (getD-take (size c) (unpacked (c .map)) i 0 h)
 
--- the best children by costs are the next prefixes
-next-prefixes : (c : Code) (y : List ℤ) (l i : ℕ) → length y ≡ size c → i < size c
-    → take l (sortBy (cheaper (cost (c .m) y)) (families (continued (getD (unpacked (c .map)) i 0)) (prefixes c y l i))) ≡ prefixes c y l (suc i)
+-- the children of the prefixes after i positions, in order by costs
+abbrev kids : Code → List ℤ → ℕ → ℕ → List (List ℕ)
+kids c y l i = sortBy (cheaper (cost (c .m) y)) (families (children c i) (prefixes c y l i))
+
+-- as they are made by the flag that is read
+kids-read : (c : Code) (y : List ℤ) (l i : ℕ) → i < size c
+    → sortBy (cheaper (cost (c .m) y)) (families (continued (getD (unpacked (c .map)) i 0)) (prefixes c y l i)) ≡ kids c y l i
 unfolding children
-next-prefixes c y l i ey h =
-    ap (λ (f : ℕ). take l (sortBy (cheaper (cost (c .m) y)) (families (continued f) (prefixes c y l i)))) (flag-is c i h)
-    ∙ sym (live-by-cost c y l ey i h)
+kids-read c y l i h = ap (λ (f : ℕ). sortBy (cheaper (cost (c .m) y)) (families (continued f) (prefixes c y l i))) (flag-is c i h)
 
 module _ (c : Code) (y : List ℤ) (deep l h i : ℕ) (s r : Live) (t b slots : List ℕ) (run : Running c y deep l h i s t b slots) (hi : i < 2 ^ suc (suc deep)) where
   size-is : size c ≡ 2 ^ suc (suc deep)
@@ -52,14 +55,27 @@ module _ (c : Code) (y : List ℤ) (deep l h i : ℕ) (s r : Live) (t b slots : 
       (λ r hr. prefix-bits c y l i r (omega (arith, run .counted))) (λ r hr. prefix-long c y l i r (omega (arith, run .counted))) hi x hx k hk
       ∙ ap (λ (m : ℕ). cost m y (prefixAt c y l i k ++ x ∷ [])) (sym (run .call .exponent))
 
-  pub chosen-step : Chosen (getD (unpacked (c .map)) i 0) i l h t (take (3 * h) b) slots s r
-      → Step (cost (c .m) y) (suc i) (prefixes c y l i) (prefixes c y l (suc i)) (entries r)
-  chosen-step ch =
-      let ps : List (List ℕ) = prefixes c y l i in
-      let st : Step (cost (c .m) y) (i + 1) ps (take l (sortBy (cheaper (cost (c .m) y)) (families (continued (getD (unpacked (c .map)) i 0)) ps))) (entries r)
-      = ch .position .step (cost (c .m) y) i ps (run .rep)
-      (λ k hk. ch .zeros k (omega (arith, run .counted)) ∙ read 0 (omega arith) k (omega (arith, run .counted)))
-      (λ e k hk. ch .ones e k (omega (arith, run .counted)) ∙ read 1 (omega arith) k (omega (arith, run .counted))) in
-      subst (λ (n : ℕ). Step (cost (c .m) y) n ps (prefixes c y l (suc i)) (entries r)) (add-one i)
-      (subst (λ (qs : List (List ℕ)). Step (cost (c .m) y) (i + 1) ps qs (entries r))
-      (next-prefixes c y l i (run .call .soft ∙ sym size-is) (omega (arith, size-is))) st)
+  module _ (ch : Chosen (getD (unpacked (c .map)) i 0) i l h t (take (3 * h) b) slots s r) where
+    inside : i < size c
+    inside = omega (arith, size-is)
+
+    chosen : Kept (cost (c .m) y) (i + 1) l (prefixes c y l i) (kids c y l i) s r
+    chosen =
+        subst (λ (ws : List (List ℕ)). Kept (cost (c .m) y) (i + 1) l (prefixes c y l i) ws s r) (kids-read c y l i inside)
+        (ch .position .keeps (cost (c .m) y) i (prefixes c y l i) (run .rep)
+        (λ k hk. ch .zeros k (omega (arith, run .counted)) ∙ read 0 (omega arith) k (omega (arith, run .counted)))
+        (λ e k hk. ch .ones e k (omega (arith, run .counted)) ∙ read 1 (omega arith) k (omega (arith, run .counted))))
+
+    -- the list that is chosen stands for the next prefixes
+    pub chosen-step : Step (cost (c .m) y) (suc i) (prefixes c y l i) (prefixes c y l (suc i)) (entries r)
+    chosen-step =
+        subst (λ (n : ℕ). Step (cost (c .m) y) n (prefixes c y l i) (prefixes c y l (suc i)) (entries r)) (add-one i)
+        (subst (λ (qs : List (List ℕ)). Step (cost (c .m) y) (i + 1) (prefixes c y l i) qs (entries r))
+        (sym (live-by-cost c y l (run .call .soft ∙ sym size-is) i inside)) (chosen .step))
+
+    -- and has the least cost that was dropped up to them
+    pub chosen-lost : r .lost ≡ lostCost c y l (suc i)
+    chosen-lost =
+        chosen .lost
+        ∙ ap (λ (a : ℕ). leastOf a (map (cost (c .m) y) (drop l (kids c y l i)))) (run .lost)
+        ∙ sym (lost-more c y l (run .call .soft ∙ sym size-is) i inside)

@@ -1,5 +1,5 @@
 -- What holds after i positions of a call: the live list, the tables, the slot numbers and the history stand for the live prefixes
--- of the paper decoder.
+-- of the paper decoder, and the list has the least cost of those that it dropped.
 use mathlib.Core.Path.{_≡_, refl}
 use mathlib.Core.List.{List, []}
 use Prim.Native.Nat.{ℕ, zero, suc, _+_, _*_, _<_, _≤_, _^_}
@@ -7,6 +7,7 @@ use lib.ListN.{length, take, drop, getD, replicate}
 use lib.IntN.{ℤ}
 use Rattle.spec.specs.Code.{Code}
 use Rattle.laws.specs.Cost.{cost, magnitude}
+use Rattle.laws.specs.CeilingCost.{lostCost}
 use Rattle.tables.specs.Tab.{slotStart}
 use Rattle.tables.specs.Right.{AllRight}
 use Rattle.tables.specs.Start.{Started}
@@ -44,6 +45,7 @@ pub record Running (c : Code) (y : List ℤ) (deep l h i : ℕ) (s : Live) (t b 
   pub counted : s .count ≡ length (prefixes c y l i)
   pub rep : Rep i (prefixes c y l i) (entries s)
   pub costs : (r : ℕ) → r < length (prefixes c y l i) → costOf (getD (s .code) r 0) ≡ cost (c .m) y (prefixAt c y l i r)
+  pub lost : s .lost ≡ lostCost c y l i
   pub ready : i < 2 ^ suc (suc deep) → (k d : ℕ) → k + d ≡ deep
       → AllRight k d l h (s .count) y (prefixAt c y l i) t (take (3 * h) b) (slotW slots d) (slotO slots d)
   pub base : (j x : ℕ) → j < 2 ^ deep → x < 16 → getD t (16 * (h + j) + x) 0 ≡ F (nodeSoft deep y j) x

@@ -1,4 +1,4 @@
--- What the program writes: 01, "The program's output". Every line ends with a line feed.
+-- What the program writes: 01, "The program's output", and the ceiling in line one: 02, wish 5. Every line ends with a line feed.
 use mathlib.Core.List.{List, [], _∷_, _++_}
 use Prim.Native.Nat.{ℕ, zero, suc, _+_}
 use lib.ListN.{take, drop, getD}
@@ -6,7 +6,7 @@ use lib.IntN.{ℤ, pos}
 use Rattle.text.specs.BitText.{bitText}
 use Rattle.text.specs.Decimal.{decimal, signedDecimal}
 
--- `refused `, `frame `, ` rows `
+-- `refused `, `frame `, ` rows `, ` ceiling `
 abbrev pub refusedWord : List ℕ
 refusedWord = 114 ∷ 101 ∷ 102 ∷ 117 ∷ 115 ∷ 101 ∷ 100 ∷ 32 ∷ []
 
@@ -15,6 +15,9 @@ frameWord = 102 ∷ 114 ∷ 97 ∷ 109 ∷ 101 ∷ 32 ∷ []
 
 abbrev pub rowsWord : List ℕ
 rowsWord = 32 ∷ 114 ∷ 111 ∷ 119 ∷ 115 ∷ 32 ∷ []
+
+abbrev pub ceilingWord : List ℕ
+ceilingWord = 32 ∷ 99 ∷ 101 ∷ 105 ∷ 108 ∷ 105 ∷ 110 ∷ 103 ∷ 32 ∷ []
 
 abbrev pub space : List ℕ
 space = 32 ∷ []
@@ -26,9 +29,9 @@ lineFeed = 10 ∷ []
 unfoldable pub refusedText : ℕ → List ℕ
 refusedText k = (refusedWord ++ decimal k) ++ lineFeed
 
--- line one: frame number and row count
-unfoldable pub frameLine : ℕ → ℕ → List ℕ
-frameLine frame rows = (frameWord ++ decimal frame) ++ (rowsWord ++ decimal rows) ++ lineFeed
+-- line one: frame number, row count and ceiling
+unfoldable pub frameLine : ℕ → ℕ → ℤ → List ℕ
+frameLine frame rows top = (frameWord ++ decimal frame) ++ (rowsWord ++ decimal rows) ++ (ceilingWord ++ signedDecimal top) ++ lineFeed
 
 -- a row: rank, score, input bits, code bits
 unfoldable pub rowLine : ℕ → ℤ → List ℕ → List ℕ → List ℕ
@@ -41,5 +44,5 @@ rowLines n rank (suc k) inputs words scores =
     rowLine rank (getD scores 0 (pos 0)) (take n inputs) (take n words) ++ rowLines n (rank + 1) k (drop n inputs) (drop n words) (drop 1 scores)
 
 -- all that is written for a record that is decoded
-unfoldable pub outputOf : ℕ → ℕ → ℕ → List ℕ → List ℕ → List ℤ → List ℕ
-outputOf frame rows n inputs words scores = frameLine frame rows ++ rowLines n 0 rows inputs words scores
+unfoldable pub outputOf : ℕ → ℕ → ℤ → ℕ → List ℕ → List ℕ → List ℤ → List ℕ
+outputOf frame rows top n inputs words scores = frameLine frame rows top ++ rowLines n 0 rows inputs words scores

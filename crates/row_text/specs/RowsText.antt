@@ -1,4 +1,4 @@
--- The text of the paper decoder's rows, with no slice in sight, and that the program writes it from slices that hold these rows.
+-- The text of the paper decoder's rows and ceiling, with no slice in sight, and that the program writes it from slices that hold these rows.
 -- Beside it the sample of 01, "The program's output".
 use mathlib.Core.Path.{_≡_, refl, ap}
 use mathlib.Core.List.{List, [], _∷_, _++_, map, append-assoc}
@@ -20,8 +20,8 @@ unfoldable pub linesOf : ℕ → List Row → List ℕ
 linesOf rank [] = []
 linesOf rank (r ∷ rs) = rowLine rank (r .score) (r .input) (r .word) ++ linesOf (rank + 1) rs
 
-unfoldable pub textOf : ℕ → List Row → List ℕ
-textOf frame rs = frameLine frame (length rs) ++ linesOf 0 rs
+unfoldable pub textOf : ℕ → List Row → ℤ → List ℕ
+textOf frame rs top = frameLine frame (length rs) top ++ linesOf 0 rs
 
 -- ---- rows of n bits, one behind the other, are found again
 abbrev pub Wide : ℕ → Row → Type 0
@@ -40,11 +40,11 @@ lines-back n rank (r ∷ rs) (more w all) a b d =
     let o = first-part (r .word) (concat (map (λ (r : Row). r .word) rs)) b n (w .1) in
     rw (i .0, i .1, o .0, o .1) (ap (λ (l : List ℕ). rowLine rank (r .score) (r .input) (r .word) ++ l) (lines-back n (rank + 1) rs all a b d))
 
--- rows in slices of any lengths, as a decoder call leaves them
-pub output-of-rows : (frame n : ℕ) (rs : List Row) → All (Wide n) rs → (r : Room) → let x : Lent = decodedRows r rs .left in
-    outputOf frame (length rs) n (x .inputs) (x .words) (x .scores) ≡ textOf frame rs
+-- rows in slices of any lengths, as a decoder call leaves them, with any ceiling
+pub output-of-rows : (frame n : ℕ) (rs : List Row) (top : ℤ) → All (Wide n) rs → (r : Room) → let x : Lent = decodedRows r rs top .left in
+    outputOf frame (length rs) top n (x .inputs) (x .words) (x .scores) ≡ textOf frame rs top
 unfolding outputOf textOf
-output-of-rows frame n rs w r = ap (λ (l : List ℕ). frameLine frame (length rs) ++ l) (lines-back n 0 rs w _ _ _)
+output-of-rows frame n rs top w r = ap (λ (l : List ℕ). frameLine frame (length rs) top ++ l) (lines-back n 0 rs w _ _ _)
 
 -- ---- the paper decoder's rows have n bits
 module _ (c : Code) (y : List ℤ) (l p : ℕ) (h : p ≤ size c) where
@@ -55,9 +55,9 @@ module _ (c : Code) (y : List ℤ) (l p : ℕ) (h : p ≤ size c) where
       let long : length u ≡ 2 ^ c .m = filled-long (size c) w (omega (arith, e, h)) in
       more (long, length-transform (c .m) u long) (wide ws all)
 
-  -- what is written from slices that hold the paper decoder's rows is their text
-  pub output-of-served : (frame : ℕ) (r : Room) → let x : Lent = decodedRows r (rows (codeTransform c) c y l p) .left in
-      outputOf frame (length (rows (codeTransform c) c y l p)) (size c) (x .inputs) (x .words) (x .scores) ≡ textOf frame (rows (codeTransform c) c y l p)
+  -- what is written from slices that hold the paper decoder's rows is their text, with any ceiling
+  pub output-of-served : (frame : ℕ) (top : ℤ) (r : Room) → let x : Lent = decodedRows r (rows (codeTransform c) c y l p) top .left in
+      outputOf frame (length (rows (codeTransform c) c y l p)) top (size c) (x .inputs) (x .words) (x .scores) ≡ textOf frame (rows (codeTransform c) c y l p) top
   unfolding rows
-  output-of-served frame r =
-      output-of-rows frame (size c) (rows (codeTransform c) c y l p) (wide (live (codeTransform c) c y l p) (live-long (codeTransform c) c y l p)) r
+  output-of-served frame top r =
+      output-of-rows frame (size c) (rows (codeTransform c) c y l p) top (wide (live (codeTransform c) c y l p) (live-long (codeTransform c) c y l p)) r

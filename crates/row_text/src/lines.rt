@@ -10,7 +10,7 @@ ghost use lib.ListN.{length};
 ghost use Rattle.text.specs.BitText.{bitText};
 ghost use Rattle.text.specs.Decimal.{decimal, signedDecimal};
 ghost use Rattle.text.specs.Put.{Put, Begins};
-ghost use Rattle.row_text.specs.Output.{space, refusedText, frameLine, rowLine};
+ghost use Rattle.row_text.specs.Output.{ceilingWord, space, refusedText, frameLine, rowLine};
 
 // A word and a number.
 fn put_named(out: &mut [u8], at: usize, word: &[u8], x: u32) -> usize
@@ -31,14 +31,23 @@ pub fn write_refused(k: u32, out: &mut [u8]) -> usize
     put_byte(out, next, b'\n')
 }
 
-// Line one: frame number and row count.
-pub(crate) fn put_frame_line(out: &mut [u8], frame: u32, rows: u32) -> usize
-    requires { ⌜ 33 ≤ length (now out) ⌝ }
-    ensures { λ r. ⌜ (Put 0 (frameLine frame rows) (now (out .entry)) r (now (out .exit))) × (r ≤ 33) ⌝ }
+fn put_ceiling(out: &mut [u8], at: usize, ceiling: i32) -> usize
+    requires { ⌜ at + 20 ≤ length (now out) ⌝ }
+    ensures { λ r. ⌜ (Put at (ceilingWord ++ signedDecimal ceiling) (now (out .entry)) r (now (out .exit))) × (r ≤ at + 20) ⌝ }
+{
+    let next = put_bytes(out, at, b" ceiling ");
+    put_signed(out, next, ceiling)
+}
+
+// Line one: frame number, row count and ceiling.
+pub(crate) fn put_frame_line(out: &mut [u8], frame: u32, rows: u32, ceiling: i32) -> usize
+    requires { ⌜ 53 ≤ length (now out) ⌝ }
+    ensures { λ r. ⌜ (Put 0 (frameLine frame rows ceiling) (now (out .entry)) r (now (out .exit))) × (r ≤ 53) ⌝ }
 {
     let a = put_named(out, 0, b"frame ", frame);
     let b = put_named(out, a, b" rows ", rows);
-    put_byte(out, b, b'\n')
+    let c = put_ceiling(out, b, ceiling);
+    put_byte(out, c, b'\n')
 }
 
 fn put_rank_and_score(out: &mut [u8], at: usize, rank: u32, score: i32) -> usize

@@ -34,10 +34,11 @@ fn put_rows(
     next
 }
 
-// Line one, of at most 33 bytes, and a line for each row, at the front of `out`. Returns how many bytes.
+// Line one, of at most 53 bytes, and a line for each row, at the front of `out`. Returns how many bytes.
 pub fn write_rows(
     frame: u32,
     rows: u32,
+    ceiling: i32,
     n: usize,
     inputs: &[u8],
     words: &[u8],
@@ -45,9 +46,9 @@ pub fn write_rows(
     out: &mut [u8],
 ) -> usize
     requires { ⌜ (rows * n ≤ length (now inputs)) × (rows * n ≤ length (now words)) × (rows ≤ length (now scores))
-        × (33 + rows * (2 * n + 25) ≤ length (now out)) ⌝ }
-    ensures { λ r. ⌜ Begins (outputOf frame rows n (now (inputs .entry)) (now (words .entry)) (now (scores .entry))) (now (out .entry)) r (now (out .exit)) ⌝ }
+        × (53 + rows * (2 * n + 25) ≤ length (now out)) ⌝ }
+    ensures { λ r. ⌜ Begins (outputOf frame rows ceiling n (now (inputs .entry)) (now (words .entry)) (now (scores .entry))) (now (out .entry)) r (now (out .exit)) ⌝ }
 {
-    let next = put_frame_line(out, frame, rows);
+    let next = put_frame_line(out, frame, rows, ceiling);
     put_rows(out, next, rows, n, inputs, words, scores)
 }

@@ -9,7 +9,8 @@ use lib.Seq.{take-suc, drop-cons, set-at, append-snoc}
 use lib.IntN.{ℤ, pos, natAbs}
 use Rattle.spec.specs.Outcome.{padded}
 use Rattle.laws.specs.Cost.{magnitude}
-use Rattle.rows.specs.Scores.{scoreFrom, ScoresWritten}
+use Rattle.laws.specs.ScoreCost.{scoreFrom}
+use Rattle.rows.specs.Scores.{ScoresWritten}
 
 -- ---- magnitudes
 -- one value more

@@ -10,14 +10,14 @@ use Rattle.spec.specs.Code.{Code, size, codeTransform}
 use Rattle.spec.specs.Score.{score}
 use Rattle.spec.specs.Decoder.{Row, live, rowOf, rows}
 use Rattle.spec.specs.Refusals.{Room}
-use Rattle.spec.specs.Outcome.{padded, concat, rowCount, lent, decoding, decodedRows}
+use Rattle.spec.specs.Outcome.{padded, concat, decoded, lent, decoding, decodedRows}
 use Rattle.laws.specs.Cost.{cost, magnitude}
-use Rattle.laws.specs.ScoreCost.{score-is}
+use Rattle.laws.specs.ScoreCost.{scoreFrom, score-is}
 use Rattle.laws.specs.ListCost.{All, none, more, Long, live-long, all-at}
 use Rattle.rows.specs.Blocks.{AllWide, filledRow, rowsOf, rows-back, wide-filled, getD-map}
 use Rattle.rows.specs.Trace.{Traced, InputsWritten, prefixesBack, prefixes-back}
 use Rattle.rows.specs.Words.{WordsWritten}
-use Rattle.rows.specs.Scores.{scoreFrom, ScoresWritten}
+use Rattle.rows.specs.Scores.{ScoresWritten}
 
 -- ---- lists
 module _ {A : Type 0} {P : A → Type 0} where
@@ -104,9 +104,10 @@ module _ {c : Code} {y : List ℤ} {l p count total : ℕ} {g costs inputs words
       ∙ map-same (λ w. scoreFrom (magnitude y) (cost (c .m) y w)) (score T (size c) y) is (live-long T c y l p)
       ∙ sym (map-map (λ (r : Row). r .score) row ps))
 
-  -- the answer and the outputs of a call that is served, where both tables are cleared
-  pub rows-are : decoding (rowCount count) (lent (replicate (room .numbers) 0) (replicate (room .bytes) 0) inputs words scores) ≡ decodedRows room (rows (codeTransform c) c y l p)
+  -- the answer and the outputs of a call that is served, where both tables are cleared, with whatever ceiling
+  pub rows-are : (top : ℤ)
+      → decoding (decoded count top) (lent (replicate (room .numbers) 0) (replicate (room .bytes) 0) inputs words scores) ≡ decodedRows room (rows (codeTransform c) c y l p) top
   unfolding ps T row
-  rows-are =
+  rows-are top =
       let count-is : count ≡ length (rows (codeTransform c) c y l p) = unfold rows in sym (length-map ps row ∙ b .few) in
       cc (inputs-are, words-are, scores-are)

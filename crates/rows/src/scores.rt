@@ -8,7 +8,8 @@ ghost use Rattle.spec.specs.Score.{taken};
 ghost use Rattle.spec.specs.Faults.{some};
 ghost use Rattle.spec.specs.Refusals.{outOfRange};
 ghost use Rattle.laws.specs.Cost.{magnitude};
-ghost use Rattle.rows.specs.Scores.{scoreFrom, ScoresFit, ScoresWritten};
+ghost use Rattle.laws.specs.ScoreCost.{scoreFrom};
+ghost use Rattle.rows.specs.Scores.{ScoresFit, ScoresWritten};
 use ranges::taken_at;
 use slices::fill_scores;
 
@@ -38,8 +39,8 @@ pub fn magnitude(soft: &[i16]) -> u32
     sum
 }
 
-// The score of a row whose prefix has this cost.
-fn score_of(total: u32, cost: u32) -> i32
+// The score of a prefix that has this cost.
+pub fn score_of(total: u32, cost: u32) -> i32
     requires { ⌜ (total ≤ 2096128) × (cost ≤ total) ⌝ }
     ensures { λ r. ⌜ r ≡ scoreFrom total cost ⌝ }
 {

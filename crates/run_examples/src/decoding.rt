@@ -20,9 +20,16 @@ fn say_score(scores: &[i32]) {
     }
 }
 
-// The number of rows, all that the rows lent hold, and the first score.
-fn say_rows(rows: u32, inputs: &[u8], words: &[u8], scores: &[i32]) {
+// The number of rows and the ceiling.
+fn say_count(rows: u32, ceiling: i32) {
     say_number(b": rows ", rows);
+    say(b", ceiling ");
+    say_signed(ceiling);
+}
+
+// The same, all that the rows lent hold, and the first score.
+fn say_rows(rows: u32, ceiling: i32, inputs: &[u8], words: &[u8], scores: &[i32]) {
+    say_count(rows, ceiling);
     say_bytes(b", inputs ", inputs);
     say_bytes(b", words ", words);
     say_score(scores);
@@ -31,7 +38,7 @@ fn say_rows(rows: u32, inputs: &[u8], words: &[u8], scores: &[i32]) {
 fn say_decoded(answer: Decoded, inputs: &[u8], words: &[u8], scores: &[i32]) {
     match answer {
         Decoded::Refused(k) => say_number(b": refused ", k),
-        Decoded::Rows(rows) => say_rows(rows, inputs, words, scores),
+        Decoded::Rows(rows, ceiling) => say_rows(rows, ceiling, inputs, words, scores),
     }
 }
 

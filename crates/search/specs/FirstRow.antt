@@ -9,7 +9,7 @@ use lib.Seq.{take-at}
 use lib.IntN.{ℤ, pos}
 use Rattle.spec.specs.Code.{Code, size, frozen, codeTransform}
 use Rattle.spec.specs.Score.{taken}
-use Rattle.spec.specs.Decoder.{Row, continued, children, scoreOf, live, rowOf, rows}
+use Rattle.spec.specs.Decoder.{Row, continued, children, scoreOf, live, rowOf, rows, ceiling}
 use Rattle.spec.specs.Refusals.{Room}
 use Rattle.spec.specs.Outcome.{Lent, roomOf, Decoding, concat, padded, decodedRows, decodeServed, decodeOutcome}
 use Rattle.laws.specs.Layer.{length-transform}
@@ -49,8 +49,8 @@ front n k u v e =
     let zeros : List ℕ = replicate (k - length (u ++ v)) 0 in
     ap (take n) (append-assoc u v zeros) ∙ take-at u (v ++ zeros) n e
 
-first-written : (n : ℕ) (r : Row) (rs : List Row) (m : Room) → length (r .input) ≡ n → length (r .word) ≡ n → firstRow n (decodedRows m (r ∷ rs)) ≡ r
-first-written n r rs m e f =
+first-written : (n : ℕ) (r : Row) (rs : List Row) (z : ℤ) (m : Room) → length (r .input) ≡ n → length (r .word) ≡ n → firstRow n (decodedRows m (r ∷ rs) z) ≡ r
+first-written n r rs z m e f =
     ap₂ (λ (u w : List ℕ). record { input = u; word = w; score = r .score })
     (front n (m .inputs) (r .input) (concat (map (λ (x : Row). x .input) rs)) e)
     (front n (m .words) (r .word) (concat (map (λ (x : Row). x .word) rs)) f)
@@ -76,11 +76,11 @@ module _ (c : Code) (l p : ℕ) (soft : List ℤ) (x : Lent) (a : AcceptedCall c
   stop-inside = stop-in-range c l p soft (roomOf x) (accepted-faults c l p soft x a)
 
   row-of : (h : List ℕ) → length h ≡ p → {ws : List (List ℕ)} → Leads (scoreOf T c y l) h ws
-      → firstRow (size c) (decodedRows (roomOf x) (map (rowOf T c y l) ws)) ≡ rowOf T c y l h
+      → firstRow (size c) (decodedRows (roomOf x) (map (rowOf T c y l) ws) (ceiling T c y l p)) ≡ rowOf T c y l h
   row-of h e (leads {ws} q) =
       let u : List ℕ = h ++ replicate (size c - length h) 0 in
       let long : length u ≡ size c = filled-long (size c) h (omega (arith, e, stop-inside)) in
-      first-written (size c) (rowOf T c y l h) (map (rowOf T c y l) ws) (roomOf x) long (length-transform (c .m) u long)
+      first-written (size c) (rowOf T c y l h) (map (rowOf T c y l) ws) (ceiling T c y l p) (roomOf x) long (length-transform (c .m) u long)
 
   pub first-of-call : FirstOfCall
   unfolding decodeServed rows

@@ -4,13 +4,13 @@ use mathlib.Core.Path.{_≡_, refl, sym, subst}
 use mathlib.Core.Bool.{Bool, true, false, not, cond, _&&_, _||_}
 use mathlib.Core.List.{List, [], _∷_, _++_}
 use mathlib.Core.Logic.{_⊎_, inl, inr}
-use Prim.Native.Nat.{ℕ, zero, suc, _≤_}
+use Prim.Native.Nat.{ℕ, zero, suc, _<_, _≤_}
 use native.Mathlib.Omega.{arith}
-use lib.ListN.{take}
+use lib.ListN.{take, drop}
 use lib.Dec.{T}
 use lib.IntN.{ℤ}
 use lib.Signed.{leZ}
-use Rattle.spec.specs.Decoder.{insertBy, sortBy, lexBefore, ahead, families, liveBy}
+use Rattle.spec.specs.Decoder.{insertBy, sortBy, lexBefore, ahead, families, headOf, liveBy}
 use Rattle.spec.specs.SignedOrder.{leZ-flip}
 use Rattle.spec.specs.OrderIsTotal.{ahead-refl, ahead-total, ahead-trans, ahead-antisym}
 use Rattle.laws.specs.ListCost.{All, none, more, all-insert, all-sort, all-take, Goes, by, both}
@@ -29,6 +29,10 @@ module _ {A : Type 0} where
   in-left v here = here
   in-left v (there i) = there (in-left v i)
 
+  pub in-right : {x : A} (u : List A) {v : List A} → In x v → In x (u ++ v)
+  in-right [] i = i
+  in-right (y ∷ u) i = there (in-right u i)
+
   in-cond : {x : A} (b : Bool) {u v : List A} → In x u → In x v → In x (cond b u v)
   in-cond true p q = p
   in-cond false p q = q
@@ -44,6 +48,25 @@ module _ {A : Type 0} where
   pub in-sort : (le : A → A → Bool) {x : A} {xs : List A} → In x xs → In x (sortBy le xs)
   in-sort le {x} (here {xs}) = in-inserted le x (sortBy le xs)
   in-sort le (there {y} i) = in-insert le y (in-sort le i)
+
+  -- a cut keeps it or leaves it behind
+  pub in-cut : (l : ℕ) {x : A} {xs : List A} → In x xs → In x (take l xs) ⊎ In x (drop l xs)
+  in-cut zero i = inr i
+  in-cut (suc l) here = inl here
+  in-cut (suc l) {x} (there {y} i) = behind y (in-cut l i)
+    where
+      behind : (y : A) {u v : List A} → In x u ⊎ In x v → In x (y ∷ u) ⊎ In x v
+      behind y (inl j) = inl (there j)
+      behind y (inr j) = inr j
+
+-- a child of a member is a member of the children
+pub in-families : {v w : List ℕ} (f : List ℕ → List (List ℕ)) {ws : List (List ℕ)} → In w ws → In v (f w) → In v (families f ws)
+in-families f (here {xs}) i = in-left (families f xs) i
+in-families f (there {y} j) i = in-right (f y) (in-families f j i)
+
+-- a rule for children allows the first n bits of u: each prefix is a child of the one before it
+abbrev pub Follows : (ℕ → List ℕ → List (List ℕ)) → ℕ → List ℕ → Type 0
+Follows kids n u = (i : ℕ) → i < n → In (take (suc i) u) (kids i (take i u))
 
 -- ---- the order of prefixes by a score
 module _ (s : List ℕ → ℤ) (v w : List ℕ) where
@@ -84,6 +107,13 @@ module _ (s : List ℕ → ℤ) where
 
   pub leads-in : {h : List ℕ} {ws : List (List ℕ)} → Leads h ws → In h ws
   leads-in (leads a) = here
+
+  pub leads-head : {h : List ℕ} {ws : List (List ℕ)} → Leads h ws → headOf ws ≡ h
+  leads-head (leads a) = refl
+
+  -- none scores higher
+  pub leads-score : {h w : List ℕ} {ws : List (List ℕ)} → Leads h ws → In w ws → T (leZ (s w) (s h))
+  leads-score {h} {w} q i = ahead-score s h w (all-in (leads-all q) i)
 
   -- there is one such prefix alone
   pub leads-one : {g h : List ℕ} {ws : List (List ℕ)} → Leads g ws → In h ws → All (λ w. T (ahead s h w)) ws → g ≡ h

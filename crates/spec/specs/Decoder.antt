@@ -3,12 +3,12 @@
 use mathlib.Core.Bool.{Bool, true, false, not, cond, _&&_, _||_}
 use mathlib.Core.List.{List, [], _∷_, _++_, map}
 use Prim.Native.Nat.{ℕ, zero, suc, _-_}
-use lib.ListN.{length, take, getD, replicate}
+use lib.ListN.{length, take, drop, getD, replicate}
 use lib.IntN.{ℤ}
 use lib.Dec.{ltb, eqb}
 use lib.Signed.{leZ}
 use Rattle.spec.specs.Code.{Code, size, frozen}
-use Rattle.spec.specs.Score.{score}
+use Rattle.spec.specs.Score.{maxℤ, score}
 
 -- insertion sort by a test le, where le x y says that x may stand before y
 module _ {A : Type 0} (le : A → A → Bool) where
@@ -44,12 +44,31 @@ abbrev pub families : (List ℕ → List (List ℕ)) → List (List ℕ) → Lis
 families f [] = []
 families f (w ∷ ws) = f w ++ families f ws
 
+-- the first of a list of prefixes
+abbrev pub headOf : List (List ℕ) → List ℕ
+headOf [] = []
+headOf (w ∷ ws) = w
+
+-- the largest of a and a list
+abbrev pub largestOf : ℤ → List ℤ → ℤ
+largestOf a [] = a
+largestOf a (x ∷ xs) = maxℤ x (largestOf a xs)
+
 -- a list search, whatever the scores s and the children kids i of a prefix at position i are: the best l stay
 module _ (s : List ℕ → ℤ) (kids : ℕ → List ℕ → List (List ℕ)) (l : ℕ) where
   -- The live prefixes after i positions, best first. At a frozen position there are no more children than prefixes, so none is cut.
   unfoldable pub liveBy : ℕ → List (List ℕ)
   liveBy zero = [] ∷ []
   liveBy (suc i) = take l (sortBy (ahead s) (families (kids i) (liveBy i)))
+
+  -- All that was dropped at the first i positions: at each what `take l` leaves behind, which is nothing at a frozen one.
+  unfoldable pub droppedBy : ℕ → List (List ℕ)
+  droppedBy zero = []
+  droppedBy (suc i) = droppedBy i ++ drop l (sortBy (ahead s) (families (kids i) (liveBy i)))
+
+  -- the larger of the first prefix's score and the highest score ever dropped
+  unfoldable pub ceilingBy : ℕ → ℤ
+  ceilingBy i = largestOf (s (headOf (liveBy i))) (map s (droppedBy i))
 
 -- a row: the prefix with 0 from the stop position on, its transform, and the prefix's score
 pub record Row : Type 0 where
@@ -73,3 +92,7 @@ module _ (T : List ℕ → List ℕ) (c : Code) (y : List ℤ) (l : ℕ) where
   -- the rows at stop position p, by rank from 0
   unfoldable pub rows : ℕ → List Row
   rows p = map rowOf (live p)
+
+  -- the ceiling at stop position p, over the whole code: 02, wish 5
+  abbrev pub ceiling : ℕ → ℤ
+  ceiling = ceilingBy scoreOf (children c) l

@@ -8,7 +8,7 @@ use Rattle.spec.specs.Bits.{bitsOf, unpacked}
 use Rattle.spec.specs.Transform.{transform, inverse}
 use Rattle.spec.specs.Code.{Code, code, frozen, codeTransform, encoded, inputOf, extracted}
 use Rattle.spec.specs.Score.{taken, largest, score}
-use Rattle.spec.specs.Decoder.{Row, children, liveBy, rows}
+use Rattle.spec.specs.Decoder.{Row, children, liveBy, droppedBy, rows, ceilingBy, ceiling}
 use Rattle.spec.specs.Faults.{first, some}
 use Rattle.spec.specs.Refusals.{pastEnd, room}
 use Rattle.spec.specs.Outcome.{Written, written, encodeRefusal, encodeOutcome, extractRefusal, extractOutcome, lent, decodeRefusal, decodeServed, decodeOutcome}
@@ -64,6 +64,10 @@ decode c y l p = rows (codeTransform c) c y l p
 abbrev pub scoresOf : List Row → List ℤ
 scoresOf = map (λ (r : Row). r .score)
 
+-- its ceiling
+abbrev pub ceilingAt : Code → List ℤ → ℕ → ℕ → ℤ
+ceilingAt c y l p = ceiling (codeTransform c) c y l p
+
 unfoldable pub table : List Example
 table =
     (words (map (transform 2) (word4 1 0 0 0 ∷ word4 0 1 0 0 ∷ word4 0 0 1 0 ∷ word4 0 0 0 1 ∷ []))
@@ -85,8 +89,11 @@ table =
     is scores (pos 8188 ∷ []))
     ∷ (words (map (λ (y : ℤ). decodeRefusal noneFrozen 1 4 (y ∷ y ∷ y ∷ y ∷ []) (room 128 272 4 4 1) ∷ []) (negsuc 2048 ∷ negsuc 2047 ∷ pos 2047 ∷ pos 2048 ∷ []))
     is words ((7 ∷ []) ∷ (0 ∷ []) ∷ (0 ∷ []) ∷ (7 ∷ []) ∷ []))
+    -- 02, wish 5: the ceiling of 01's sixth example, frozen 1, 2 and 3, is 8 at l = 1; at l = 2 it is 0, the first row's score. At p = 0 it
+    -- is the sum of the magnitudes.
+    ∷ (scores (ceilingAt frozen123 y₂ 1 4 ∷ ceilingAt frozen123 y₂ 2 4 ∷ ceilingAt noneFrozen y₁ 2 0 ∷ []) is scores (pos 8 ∷ pos 0 ∷ pos 17 ∷ []))
     ∷ []
 
 pub starred-examples : map (λ (e : Example). e .found) table ≡ map (λ (e : Example). e .stated) table
-unfolding table y₀ y₁ y₂ yₘ frozen01 frozen123 noneFrozen bitsOf unpacked transform inverse frozen encoded inputOf extracted largest score children liveBy rows first some pastEnd encodeRefusal encodeOutcome extractRefusal extractOutcome decodeRefusal decodeServed decodeOutcome
+unfolding table y₀ y₁ y₂ yₘ frozen01 frozen123 noneFrozen bitsOf unpacked transform inverse frozen encoded inputOf extracted largest score children liveBy droppedBy rows ceilingBy first some pastEnd encodeRefusal encodeOutcome extractRefusal extractOutcome decodeRefusal decodeServed decodeOutcome
 starred-examples = refl

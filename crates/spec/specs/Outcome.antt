@@ -6,7 +6,7 @@ use lib.ListN.{length, replicate}
 use lib.IntN.{ℤ, pos}
 use Rattle.spec.specs.Code.{Code, codeTransform, encoded, extracted}
 use Rattle.spec.specs.Score.{taken}
-use Rattle.spec.specs.Decoder.{Row, rows}
+use Rattle.spec.specs.Decoder.{Row, rows, ceiling}
 use Rattle.spec.specs.Faults.{first, settled}
 use Rattle.spec.specs.Refusals.{Room, room, encodeFaults, extractFaults, decodeFaults}
 use Rattle.spec.specs.Record.{exponent, listSize, stopPosition, frameNumber, recordMap, recordSoft, shapeFaults, fieldFaults}
@@ -37,9 +37,10 @@ unfoldable pub extractOutcome : Code → List ℕ → List ℕ → Written
 extractOutcome c word out =
     settled (extractRefusal c word (length out)) (λ k. written k out) (written 0 (padded 0 (length out) (extracted c word)))
 
--- ---- decoder: the row count or the refusal number, and the five lent slices
+-- ---- decoder: the row count and the ceiling, or the refusal number, and the five lent slices
 pub data Answer : Type 0 where
-  rowCount refusedBy : ℕ → Answer
+  decoded : ℕ → ℤ → Answer
+  refusedBy : ℕ → Answer
 
 pub record Lent : Type 0 where
   pub numbers : List ℕ
@@ -68,18 +69,18 @@ concat (x ∷ xs) = x ++ concat xs
 unfoldable pub decodeRefusal : Code → ℕ → ℕ → List ℤ → Room → ℕ
 decodeRefusal c l p soft r = first (decodeFaults c l p soft r)
 
--- rows in slices of these lengths: the tables are 0, and the outputs hold the rows by rank and then 0
-abbrev pub decodedRows : Room → List Row → Decoding
-decodedRows r rs = decoding (rowCount (length rs)) (lent
+-- rows with their ceiling, in slices of these lengths: the tables are 0, and the outputs hold the rows by rank and then 0
+abbrev pub decodedRows : Room → List Row → ℤ → Decoding
+decodedRows r rs top = decoding (decoded (length rs) top) (lent
     (replicate (r .numbers) 0)
     (replicate (r .bytes) 0)
     (padded 0 (r .inputs) (concat (map (λ (x : Row). x .input) rs)))
     (padded 0 (r .words) (concat (map (λ (x : Row). x .word) rs)))
     (padded (pos 0) (r .scores) (map (λ (x : Row). x .score) rs)))
 
--- a call that is served holds the rows of the paper decoder, which is fed the soft values as they are taken
+-- a call that is served holds the rows of the paper decoder, which is fed the soft values as they are taken, and gives its ceiling
 unfoldable pub decodeServed : Code → ℕ → ℕ → List ℤ → Room → Decoding
-decodeServed c l p soft r = decodedRows r (rows (codeTransform c) c (taken soft) l p)
+decodeServed c l p soft r = decodedRows r (rows (codeTransform c) c (taken soft) l p) (ceiling (codeTransform c) c (taken soft) l p)
 
 unfoldable pub decodeOutcome : Code → ℕ → ℕ → List ℤ → Lent → Decoding
 decodeOutcome c l p soft x =

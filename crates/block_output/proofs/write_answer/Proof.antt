@@ -1,11 +1,15 @@
 -- `block_output::write_answer` meets its contract, by what the decoder answered. Assumes nothing.
-use mathlib.Core.Path.{_≡_, sym, ap}
+use mathlib.Core.Path.{_≡_, sym, ap, _∙_}
 use mathlib.Core.List.{List}
 use Prim.Native.Nat.{ℕ}
 use native.Mathlib.Omega.{arith}
+use lib.IntN.{ℤ}
+use mir.Syntax.{w32}
+use mir.ValLaws.{toZ-ofZ}
 use Rattle.decoder.specs.Answers.{answerOf}
 use Rattle.decoder.specs.declared.call.Decoded.{Decoded}
 use Rattle.text.specs.Put.{begins-same}
+use Rattle.row_text.specs.Output.{outputOf}
 use Rattle.block_output.specs.Block.{rowsAnswered, answerText}
 use Rattle.block_output.proofs.write_answer.Statement.{statement}
 use Rattle.block_output.proofs.write_answer.Tie as tie
@@ -40,7 +44,10 @@ returns : tie.Need-returns
 returns c =
     let r = c .before .before in
     let v = r .before .before .before .decoded .given in
-    begins-same (same-text (r .before .before .before .before .before .before .before .before) _ (v .1)) (r .write-rows .ensures)
+    let s = r .before .before .before .before .before .before .before .before in
+    let a = s .args in
+    let same = ap (λ (z : ℤ). outputOf (a .frame) (v .0 .0) z (a .n) (a .inputs .now) (a .words .now) (a .scores .now)) (toZ-ofZ w32 (v .0 .1 .0) (record { sfits = r .before .before .known-told .given .1 .0 .1 })) in
+    begins-same (same ∙ same-text s _ (v .1)) (r .write-rows .ensures)
 
 same-length-2 : tie.Need-same-length-2
 same-length-2 c = omega arith

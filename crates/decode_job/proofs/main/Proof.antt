@@ -31,7 +31,7 @@ array-share-prefix-out c = search needs
 slice-aggregate-write-all : tie.Need-slice-aggregate-write-all
 slice-aggregate-write-all c =
     let o = c .before .before .write-output in
-    let k : length (o .last .1 .0) ≡ 645 = o .kept .1 .0 in
+    let k : length (o .last .1 .0) ≡ 665 = o .kept .1 .0 in
     sym (length-take-le (o .result) (o .last .1 .0) (omega (arith, o .ensures .fits)))
 
 write-all-requires : tie.Need-write-all-requires

@@ -45,9 +45,6 @@ serve-requires c κs =
     let k = c .before .before .before .before .before .before .before .before .decode-refusal in
     serve-fits (s .args .m) (s .args .l) (s .args .p) (s .args .map .now) (s .args .soft .now) (k .result) (room-of s) (k .ensures) (c .before .before .before .before .before .before .before .if1 .left) _ _ (c .before .before .before .before .before .before .size .ensures .0) (c .before .before .before .before .before .times .ensures .0)
 
-cast-t31 : tie.Need-cast-t31
-cast-t31 c = search needs
-
 same-length : tie.Need-same-length
 same-length c = search needs
 
@@ -68,7 +65,7 @@ returns-2 c =
     let s = c .before .before .before .before .before .before .before .before .before .before .before .before .before .before .before .before .before .before .before .before .before .before .before .before in
     let k = c .before .before .before .before .before .before .before .before .before .before .before .before .before .before .before .before .before .before .decode-refusal in
     let r = c .before .before .before .before .before .before .before .before .before .serve in
-    served-call (s .args .m) (s .args .l) (s .args .p) (s .args .map .now) (s .args .soft .now) (k .result) (given s) (k .ensures) (c .before .before .before .before .before .before .before .before .before .before .before .before .before .before .before .before .before .if1 .left) _ (r .result) (r .ensures)
+    served-call (s .args .m) (s .args .l) (s .args .p) (s .args .map .now) (s .args .soft .now) (k .result) (given s) (k .ensures) (c .before .before .before .before .before .before .before .before .before .before .before .before .before .before .before .before .before .if1 .left) _ (r .ensures)
 
 pub decode-spec : {M : Type 1} → statement M
 decode-spec =
@@ -79,7 +76,6 @@ decode-spec =
     size-requires
     times-requires
     serve-requires
-    cast-t31
     same-length
     same-length-2
     same-length-3

@@ -3,6 +3,10 @@ use Prim.Native.Nat.{ℕ}
 use native.Mathlib.Omega.{arith}
 use borrow.Author.Needs.{needs}
 use lib.ListN.{replicate}
+use lib.IntN.{ℤ}
+use mir.Syntax.{w32}
+use mir.ValLaws.{toZ-ofZ}
+use Rattle.spec.specs.Outcome.{decoding, decoded, lent}
 use Rattle.decoder.proofs.Serving.{bits-fit}
 use Rattle.decoder.proofs.Outputs.{enough, costs-fit, served}
 use Rattle.decoder.proofs.serve.serve.Statement.{statement}
@@ -28,6 +32,9 @@ write-costs-requires c κs =
 clear-tables-requires : tie.Need-clear-tables-requires
 clear-tables-requires c κs = search needs
 
+cast-t33 : tie.Need-cast-t33
+cast-t33 c = omega (arith, c .before .before .before .before .before .before .before .before .before .before .before .before .before .before .before .before .before .before .before .before .before .before .decode-list .ensures .few, c .before .before .before .before .before .before .before .before .before .before .before .before .before .before .before .before .before .before .before .before .before .before .before .before .before .before .before .before .before .before .pre .list)
+
 same-length : tie.Need-same-length
 same-length c = search needs
 
@@ -50,7 +57,8 @@ returns c =
     let w = c .before .before .before .before .before .before .before .before .before .before .before .before .before .before .write-bits in
     let k = c .before .before .before .before .before .before .before .before .write-costs in
     let z = c .before .before .before .before .clear-tables in
-    served (s .args .m) (s .args .l) (s .args .p) (s .args .n) (s .args .h) (s .args .map .now) (s .args .soft .now) _ (s .pre) (d .result) (d .last .1 .1 .1 .1 .1 .0) (d .last .1 .1 .1 .1 .1 .1 .0) (d .ensures) (w .last .0) (w .last .1 .0) (k .last .0) (w .ensures) (k .ensures) (z .last .0) (z .last .1 .0)
+    ap (λ (top : ℤ). decoding (decoded (d .result .count) top) (lent (z .last .0) (z .last .1 .0) (w .last .0) (w .last .1 .0) (k .last .0))) (toZ-ofZ w32 (k .result) (record { sfits = k .ok }))
+    ∙ served (s .args .m) (s .args .l) (s .args .p) (s .args .n) (s .args .h) (s .args .map .now) (s .args .soft .now) _ (s .pre) (d .result) (d .last .1 .1 .1 .1 .1 .0) (d .last .1 .1 .1 .1 .1 .1 .0) (d .ensures) (w .last .0) (w .last .1 .0) (k .result) (k .last .0) (w .ensures) (k .ensures) (z .last .0) (z .last .1 .0)
     (z .ensures .0 ∙ ap (λ (j : ℕ). replicate j 0) (d .kept .1 .1 .1 .1 .1 .0)) (z .ensures .1 ∙ ap (λ (j : ℕ). replicate j 0) (d .kept .1 .1 .1 .1 .1 .1 .0))
 
 pub serve-spec : {M : Type 1} → statement M
@@ -61,6 +69,7 @@ serve-spec =
     write-bits-requires
     write-costs-requires
     clear-tables-requires
+    cast-t33
     same-length
     same-length-2
     same-length-3

@@ -1,14 +1,19 @@
--- `Live::clear` meets its contract: the entries by those of `split` and `cut`, the prefixes by the law of a position.
+-- `Live::clear` meets its contract: the entries by those of `split` and `cut`, the prefixes by the law of a position. The one entry
+-- that is cut off has the least cost of all that do not stay.
 -- Assumes nothing.
-use Prim.Native.Nat.{_+_}
+use mathlib.Core.Path.{ap₂, _∙_}
+use mathlib.Core.List.{List}
+use Prim.Native.Nat.{ℕ, _+_}
 use native.Mathlib.Omega.{arith}
-use lib.ListN.{take}
+use lib.ListN.{take, drop}
 use borrow.Author.Needs.{needs}
 use lib.Dec.{leb}
 use lib.Seq.{take-take}
 use Rattle.spec.specs.Decoder.{sortBy}
 use Rattle.live.specs.Entries.{childrenOf}
 use Rattle.live.specs.Lists.{entries, Holds}
+use Rattle.live.specs.Lost.{lostWith}
+use Rattle.live.proofs.Losing.{rising-sort, one-more}
 use Rattle.live.proofs.Steps.{position}
 use Rattle.live.proofs.Live.clear.Statement.{statement}
 use Rattle.live.proofs.Live.clear.Tie as tie
@@ -22,9 +27,13 @@ cut-requires c κs = omega arith
 returns : tie.Need-returns
 returns c =
     let s = c .before .before .args in
-    let xs = sortBy leb (childrenOf 0 (entries (s .self)) (s .zeros .now) (s .ones .now) (s .self .count)) in
-    let h : Holds (c .cut .result) (s .l) (take (s .l) xs) = rw (c .before .split .ensures .holds .are, take-take (s .l) (s .l + 1) xs (omega arith)) at (c .cut .ensures) in
-    record { holds = h; step = position (s .self) 0 (s .l) (s .zeros .now) (s .ones .now) _ (search needs) (omega arith) (h .are) }
+    let sp = c .before .split .ensures in
+    let ks = childrenOf 0 (entries (s .self)) (s .zeros .now) (s .ones .now) (s .self .count) in
+    let h : Holds (c .cut .result) (s .l) (take (s .l) (sortBy leb ks)) = rw (sp .holds .are, take-take (s .l) (s .l + 1) (sortBy leb ks) (omega arith)) at (c .cut .ensures .holds) in
+    position 0 (s .l) (s .zeros .now) (s .ones .now) (s .self) (c .cut .result) (search needs) (omega arith) h
+    (c .cut .ensures .lost
+    ∙ ap₂ (λ (a : ℕ) (ys : List ℕ). lostWith a (drop (s .l) ys)) (sp .lost) (sp .holds .are)
+    ∙ one-more (s .l) (s .self .lost) (rising-sort ks))
 
 pub clear-spec : {M : Type 1} → statement M
 clear-spec = tie.close (tie.spec split-requires cut-requires returns)

@@ -11,16 +11,15 @@ use Rattle.live.specs.Entries.{childrenOf}
 use Rattle.live.specs.Rising.{none₂}
 use Rattle.live.specs.Lists.{Filled}
 use Rattle.live.proofs.Turns.{holds, children-turn}
-use Rattle.live.proofs.Steps.{position}
-use lib.ListN.{length, take}
+use lib.ListN.{take}
 use Rattle.live.proofs.Live.extend.Statement.{statement}
 use Rattle.live.proofs.Live.extend.Tie as tie
 
 abbrev Inv-loop : tie.InvT-loop
-Inv-loop frozen zeros ones l n code anew out₀ m₀ i₀ out m i = (i ≤ n) × Filled out m l (take l (sortBy leb (childrenOf frozen (take n code) zeros ones i)))
+Inv-loop frozen zeros ones l n lost code anew out₀ m₀ i₀ out m i = (i ≤ n) × Filled out m l (take l (sortBy leb (childrenOf frozen (take n code) zeros ones i)))
 
 abbrev μ-loop : tie.MeasureT-loop
-μ-loop frozen zeros ones l n code anew out₀ m₀ i₀ out m i = n - i
+μ-loop frozen zeros ones l n lost code anew out₀ m₀ i₀ out m i = n - i
 
 is-crowded-requires : tie.Need-is-crowded-requires Inv-loop μ-loop
 is-crowded-requires c κs = search needs
@@ -67,10 +66,6 @@ add-i c = omega arith
 loop-less : tie.Need-loop-less Inv-loop μ-loop
 loop-less c = omega arith
 
--- stated at the entry: from further on `search` does not reach it
-code-long : (s : tie.Start Inv-loop μ-loop) → length (s .args .self .code) ≡ 33
-code-long s = search needs
-
 loop-again : tie.Need-loop-again Inv-loop μ-loop
 loop-again c =
     let e2 = c .before .before in
@@ -99,8 +94,7 @@ returns c =
     let s = l .before .before .before .before .args in
     let e : l .loop .i ≡ s .self .count = omega arith in
     let p = rw e at (l .loop .inv .1) in
-    let h = holds _ (s .l) _ (p .long) (omega arith) (p .few) (p .are) in
-    record { holds = h; step = position (s .self) (s .frozen) (s .l) (s .zeros .now) (s .ones .now) _ (code-long (l .before .before .before .before)) (omega arith) (h .are) }
+    record { holds = holds _ (s .l) _ (p .long) (omega arith) (p .few) (p .are); lost = refl }
 
 pub extend-spec : {M : Type 1} → statement M
 extend-spec =

@@ -23,7 +23,7 @@ mul-at c = search needs
 loop-holds : tie.Need-loop-holds Inv-loop μ-loop
 loop-holds c =
     let s = c .before .before .before .before in
-    looping-start (s .args .deep) (s .args .l) (s .args .h) (s .args .n) (s .args .p) (s .args .map .now) (s .args .t .now) (s .args .b .now) (s .pre) (3 * s .args .h) (replicate 1024 0) (c .start .result) refl refl (zeros-at 1024) (c .start .ensures .0) (c .start .ensures .1)
+    looping-start (s .args .deep) (s .args .l) (s .args .h) (s .args .n) (s .args .p) (s .args .map .now) (s .args .t .now) (s .args .b .now) (s .pre) (3 * s .args .h) (replicate 1024 0) (c .start .result) refl refl (zeros-at 1024) (c .start .ensures .0) (c .start .ensures .1) (c .start .ensures .2)
 
 slice-aggregate-position : tie.Need-slice-aggregate-position Inv-loop μ-loop
 slice-aggregate-position c = sym (c .before .before .before .before .loop .inv .numbers)

@@ -11,7 +11,7 @@ use Rattle.spec.specs.Bits.{unpacked}
 use Rattle.tables.specs.Walk.{Advance}
 use Rattle.positions.specs.Position.{Chosen}
 use Rattle.positions.proofs.Fitting.{top-low, bits-long, choose-fits, settle-fits, advance-fits}
-use Rattle.positions.proofs.Stepping.{chosen-step}
+use Rattle.positions.proofs.Stepping.{chosen-step, chosen-lost}
 use Rattle.positions.proofs.Advancing.{running-more}
 use Rattle.positions.proofs.position.position.Statement.{statement}
 use Rattle.positions.proofs.position.position.Tie as tie
@@ -74,11 +74,12 @@ returns c =
       record { few = ch .ensures .position .holds .few; long = ch .ensures .position .holds .counted; named = ad .ensures .0 },
       λ c′ y em run.
           let hi : s .args .i < 2 ^ suc (suc (s .args .deep)) = omega (arith, f .inside, f .sizes .whole) in
-          let st′ = chosen-step c′ y (s .args .deep) (s .args .l) (s .args .h) (s .args .i) (s .args .s) (ch .result) (s .args .t .now) (s .args .b .now) (s .args .slots .now) run hi
-          (subst (λ (m : List ℕ). Chosen (getD (unpacked m) (s .args .i) 0) (s .args .i) (s .args .l) (s .args .h) (s .args .t .now) (take (3 * s .args .h) (s .args .b .now)) (s .args .slots .now) (s .args .s) (ch .result)) (sym em) (ch .ensures)) in
+          let chosen = subst (λ (m : List ℕ). Chosen (getD (unpacked m) (s .args .i) 0) (s .args .i) (s .args .l) (s .args .h) (s .args .t .now) (take (3 * s .args .h) (s .args .b .now)) (s .args .slots .now) (s .args .s) (ch .result)) (sym em) (ch .ensures) in
+          let st′ = chosen-step c′ y (s .args .deep) (s .args .l) (s .args .h) (s .args .i) (s .args .s) (ch .result) (s .args .t .now) (s .args .b .now) (s .args .slots .now) run hi chosen in
+          let lost = chosen-lost c′ y (s .args .deep) (s .args .l) (s .args .h) (s .args .i) (s .args .s) (ch .result) (s .args .t .now) (s .args .b .now) (s .args .slots .now) run hi chosen in
           running-more c′ y (s .args .deep) (s .args .l) (s .args .h) (s .args .i) (s .args .at) (s .args .s) (ch .result) (s .args .t .now) (s .args .b .now) (s .args .slots .now) (st .last .0) (st .last .1 .0) (ad .last .0) (bb ++ rest) (ad .last .1 .1 .0)
           (f .sizes .list) (s .pre .1 .few) (ch .ensures .position .holds .few) (ch .ensures .position .holds .counted)
-          (top-low (s .args .deep) (s .args .l) (s .args .h) (s .args .n) (s .args .i) (s .args .at) (s .args .t .now) (s .args .b .now) (s .args .slots .now) (s .args .map .now) (s .pre .0)) (f .place) hi run st′ (st .ensures)
+          (top-low (s .args .deep) (s .args .l) (s .args .h) (s .args .n) (s .args .i) (s .args .at) (s .args .t .now) (s .args .b .now) (s .args .slots .now) (s .args .map .now) (s .pre .0)) (f .place) hi run st′ lost (st .ensures)
           (subst (λ (z : List ℕ). Advance (s .args .deep) (s .args .l) (s .args .h) (ch .result .count) (s .args .i) (s .args .t .now) (take (3 * s .args .h) (st .last .0)) (st .last .1 .0) (ad .last .0) z (ad .last .1 .1 .0)) (sym (take-at bb rest (3 * s .args .h) lb)) (ad .ensures .2))
           (ad .ensures .1) (drop-at bb rest (3 * s .args .h) lb),
     )

@@ -1,7 +1,13 @@
--- `row_text::lines::put_frame_line` meets its contract: two words with their numbers, and a line feed. Assumes nothing.
+-- `row_text::lines::put_frame_line` meets its contract: three words with their numbers, and a line feed. Assumes nothing.
+use mathlib.Core.Path.{ap}
+use mathlib.Core.List.{_++_}
 use native.Mathlib.Omega.{arith}
-use Rattle.row_text.specs.Output.{frameLine}
-use Rattle.text.specs.Put.{then}
+use lib.IntN.{ℤ}
+use mir.Syntax.{w32}
+use mir.ValLaws.{toZ-ofZ}
+use Rattle.text.specs.Decimal.{signedDecimal}
+use Rattle.row_text.specs.Output.{ceilingWord, frameLine}
+use Rattle.text.specs.Put.{then, put-same}
 use Rattle.row_text.proofs.lines.put_frame_line.Statement.{statement}
 use Rattle.row_text.proofs.lines.put_frame_line.Tie as tie
 
@@ -17,6 +23,9 @@ slice-aggregate-put-named-2 c = omega arith
 put-named-requires-2 : tie.Need-put-named-requires-2
 put-named-requires-2 c κs = omega arith
 
+put-ceiling-requires : tie.Need-put-ceiling-requires
+put-ceiling-requires c κs = omega arith
+
 put-byte-requires : tie.Need-put-byte-requires
 put-byte-requires c κs = omega arith
 
@@ -27,10 +36,13 @@ returns : tie.Need-returns
 unfolding frameLine
 returns c =
     let feed = c .before .before in
-    let rows = feed .before .before .before .before in
-    let frame = rows .before .before .before .before .before in (
-      then (then (frame .put-named .ensures .0) (rows .put-named2 .ensures .0)) (feed .put-byte .ensures .0),
-      omega (arith, frame .put-named .ensures .1, rows .put-named2 .ensures .1, feed .put-byte .ensures .1),
+    let top = feed .before .before .before .before in
+    let rows = top .before .before .before .before in
+    let frame = rows .before .before .before .before .before in
+    let s = frame .before .before .before .before in
+    let same = ap (λ (z : ℤ). ceilingWord ++ signedDecimal z) (toZ-ofZ w32 (s .args .ceiling) (s .fits .ceiling)) in (
+      then (then (then (frame .put-named .ensures .0) (rows .put-named2 .ensures .0)) (put-same (top .put-ceiling .ensures .0) same)) (feed .put-byte .ensures .0),
+      omega (arith, frame .put-named .ensures .1, rows .put-named2 .ensures .1, top .put-ceiling .ensures .1, feed .put-byte .ensures .1),
     )
 
 pub put-frame-line-spec : {M : Type 1} → statement M
@@ -41,6 +53,7 @@ put-frame-line-spec =
     put-named-requires
     slice-aggregate-put-named-2
     put-named-requires-2
+    put-ceiling-requires
     put-byte-requires
     same-length
     returns)

@@ -1,7 +1,10 @@
 -- `row_text::listing::write_rows` meets its contract: line one, and the rows behind it. Assumes nothing.
+use mathlib.Core.Path.{ap}
 use native.Mathlib.Omega.{arith}
-use Rattle.row_text.specs.Output.{outputOf}
-use Rattle.text.specs.Put.{then, whole}
+use mir.Syntax.{w32}
+use mir.ValLaws.{toZ-ofZ}
+use Rattle.row_text.specs.Output.{frameLine, rowLines, outputOf}
+use Rattle.text.specs.Put.{then, put-same, whole}
 use Rattle.row_text.proofs.listing.write_rows.Statement.{statement}
 use Rattle.row_text.proofs.listing.write_rows.Tie as tie
 
@@ -19,7 +22,12 @@ unfolding outputOf
 returns c =
     let rows = c .before .before in
     let frame = rows .before .before .before .before in
-    whole (then (frame .put-frame-line .ensures .0) (rows .put-rows .ensures .0)) (omega (arith, frame .put-frame-line .ensures .1, rows .put-rows .ensures .1))
+    let s = frame .before .before .before .before .before in
+    let a = s .args in
+    let same = ap (frameLine (a .frame) (a .rows)) (toZ-ofZ w32 (a .ceiling) (s .fits .ceiling)) in
+    whole
+    (then (put-same (frame .put-frame-line .ensures .0) same) {ys = rowLines (a .n) 0 (a .rows) (a .inputs .now) (a .words .now) (a .scores .now)} (rows .put-rows .ensures .0))
+    (omega (arith, frame .put-frame-line .ensures .1, rows .put-rows .ensures .1))
 
 pub write-rows-spec : {M : Type 1} → statement M
 write-rows-spec =

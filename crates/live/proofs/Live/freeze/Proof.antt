@@ -1,0 +1,28 @@
+-- `Live::freeze` meets its contract: the entries by those of `extend`, the prefixes by the law of a position. There are no more
+-- children than paths, so none is lost.
+-- Assumes nothing.
+use mathlib.Core.Path.{sym, ap, _∙_}
+use mathlib.Core.List.{List}
+use Prim.Native.Nat.{ℕ}
+use native.Mathlib.Omega.{arith}
+use borrow.Author.Needs.{needs}
+use Rattle.live.specs.Lists.{entries}
+use Rattle.live.specs.Lost.{lostWith}
+use Rattle.live.proofs.Losing.{none-lost}
+use Rattle.live.proofs.Steps.{position}
+use Rattle.live.proofs.Live.freeze.Statement.{statement}
+use Rattle.live.proofs.Live.freeze.Tie as tie
+
+extend-requires : tie.Need-extend-requires
+extend-requires c κs = omega arith
+
+returns : tie.Need-returns
+returns c =
+    let s = c .before .args in
+    let e = c .extend .ensures in
+    position 1 (s .l) (s .zeros .now) (s .zeros .now) (s .self) (c .extend .result) (search needs) (omega arith) (e .holds)
+    (e .lost
+    ∙ ap (λ (xs : List ℕ). lostWith (s .self .lost) xs) (sym (none-lost 0 (s .l) (entries (s .self)) (s .zeros .now) (s .zeros .now) (s .self .count) (omega arith))))
+
+pub freeze-spec : {M : Type 1} → statement M
+freeze-spec = tie.close (tie.spec extend-requires returns)

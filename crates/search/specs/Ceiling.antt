@@ -1,0 +1,128 @@
+-- The ceiling over the whole code: 02, wish 5. A decoder call's ceiling against every word of the code, at any stop position, and
+-- what its equality with the first score says of the first row at stop n.
+use mathlib.Core.Path.{_≡_, sym, ap, subst, _∙_}
+use mathlib.Core.List.{List, _++_, append-nil}
+use Prim.Native.Nat.{ℕ, _-_, _≤_}
+use native.Mathlib.Omega.{arith}
+use lib.ListN.{length, take, drop, length-take, length-drop, take-append-drop}
+use lib.Dec.{T}
+use lib.IntN.{ℤ, pos}
+use lib.Signed.{leZ}
+use Rattle.spec.specs.Bits.{Bits}
+use Rattle.spec.specs.Code.{Code, size, frozen, payloadSize, spread, codeTransform, encoded}
+use Rattle.spec.specs.Score.{correlation, largest, score, taken}
+use Rattle.spec.specs.Decoder.{Row, children, scoreOf, live, rowOf, ceiling}
+use Rattle.spec.specs.ScoreIsLargest.{no-completion-above}
+use Rattle.spec.specs.Refusals.{runFaults, tableFaults}
+use Rattle.spec.specs.Outcome.{Answer, decoded, refusedBy, Lent, roomOf, Decoding, decodeServed, decodeOutcome}
+use Rattle.laws.specs.BitLaws.{bits-drop}
+use Rattle.laws.specs.FrozenMap.{length-spread, bits-spread}
+use Rattle.laws.specs.ListCost.{goes}
+use Rattle.laws.specs.FirstFault.{none-before, end, next}
+use Rattle.laws.specs.Accepted.{accepted-of, flag-count}
+use Rattle.laws.specs.DecodeCall.{AcceptedCall, accepted-faults, accepted-is}
+use Rattle.search.specs.ListSearch.{In, leads-in}
+use Rattle.search.specs.SearchCeiling.{none-above-ceiling}
+use Rattle.search.specs.CodeInputs.{input-follows, live-input}
+use Rattle.search.specs.FirstRow.{firstRow, some-list, stop-inside, first-of-call}
+
+-- ---- the statements' words
+-- the ceiling that a call gives; a refused one gives none
+abbrev pub ceilingOf : Answer → ℤ
+ceilingOf (decoded r z) = z
+ceilingOf (refusedBy k) = pos 0
+
+-- the row of a payload: its input, its word, and the word's correlation
+abbrev pub rowOfPayload : Code → List ℤ → List ℕ → Row
+rowOfPayload c soft p = record { input = spread (frozen c) p; word = encoded c p; score = correlation (taken soft) (encoded c p) }
+
+-- a row is that of a payload of k bits
+pub record CodeRow (c : Code) (soft : List ℤ) (r : Row) : Type 0 where
+  pub payload : List ℕ
+  pub long : length payload ≡ payloadSize c
+  pub bits : Bits payload
+  pub is : r ≡ rowOfPayload c soft payload
+
+-- no word of the code correlates above z
+abbrev pub NoneAbove : Code → List ℤ → ℤ → Type 0
+NoneAbove c soft z = (payload : List ℕ) → length payload ≡ payloadSize c → Bits payload → T (leZ (correlation (taken soft) (encoded c payload)) z)
+
+-- a row is that of a payload, and no word of the code correlates above its score
+pub record BestRow (c : Code) (soft : List ℤ) (r : Row) : Type 0 where
+  pub in-code : CodeRow c soft r
+  pub none-above : NoneAbove c soft (r .score)
+
+-- ---- the decoder on paper
+module _ (T′ : List ℕ → List ℕ) (c : Code) (y : List ℤ) (l : ℕ) where
+  -- an input correlates no higher than any of its prefixes scores
+  prefixes-reach : (u : List ℕ) → length u ≡ size c → Bits u → (i : ℕ) → i ≤ size c → T (leZ (correlation y (T′ u)) (scoreOf T′ c y l (take i u)))
+  prefixes-reach u e t i h =
+      subst (λ (v : List ℕ). T (leZ (correlation y (T′ v)) (scoreOf T′ c y l (take i u)))) (take-append-drop i u)
+      (no-completion-above T′ y (size c) (take i u) (drop i u) (omega (arith, length-take i u, length-drop i u)) (bits-drop t i))
+
+  -- so the input of a payload correlates no higher than the ceiling
+  none-above-paper : 1 ≤ l → length (frozen c) ≡ size c → (p : ℕ) → p ≤ size c → {payload : List ℕ} → Bits payload
+      → T (leZ (correlation y (T′ (spread (frozen c) payload))) (ceiling T′ c y l p))
+  none-above-paper some flags p h {payload} t =
+      let u : List ℕ = spread (frozen c) payload in
+      none-above-ceiling (scoreOf T′ c y l) (children c) l some (goes c) u (correlation y (T′ u)) p
+      (λ i k. input-follows c t i (omega (arith, flags)))
+      (λ i k. prefixes-reach u (length-spread (frozen c) payload ∙ flags) (bits-spread (frozen c) t) i (omega arith))
+
+  -- the row of a path of n bits: nothing is filled up, and nothing is left free in the score
+  abbrev wholeRow : List ℕ → Row
+  wholeRow u = record { input = u; word = T′ u; score = correlation y (T′ u) }
+
+  row-of-whole : (u : List ℕ) → length u ≡ size c → rowOf T′ c y l u ≡ wholeRow u
+  unfolding score largest
+  row-of-whole u e = let none-left : size c - length u ≡ 0 = omega arith in rw (none-left, append-nil u)
+
+-- ---- the theorems
+module _ (c : Code) (l p : ℕ) (soft : List ℤ) (x : Lent) (a : AcceptedCall c l p soft x) where
+  -- there is a flag for each position
+  flags : length (frozen c) ≡ size c
+  flags = flag-count (accepted-of (none-before (runFaults (size c) l p soft ++ tableFaults (size c) l (roomOf x)) (next (next (next end))) (accepted-faults c l p soft x a)))
+
+  -- the call gives the ceiling of the decoder on paper
+  ceiling-is : ceilingOf (decodeOutcome c l p soft x .answer) ≡ ceiling (codeTransform c) c (taken soft) l p
+  unfolding decodeServed
+  ceiling-is = ap (λ (o : Decoding). ceilingOf (o .answer)) (accepted-is c l p soft x a)
+
+  -- At any stop position no word of the code correlates above the ceiling that an accepted call gives.
+  pub no-code-word-above : NoneAbove c soft (ceilingOf (decodeOutcome c l p soft x .answer))
+  unfolding encoded
+  no-code-word-above payload e t =
+      subst (λ (z : ℤ). T (leZ (correlation (taken soft) (codeTransform c (spread (frozen c) payload))) z)) (sym ceiling-is)
+      (none-above-paper (codeTransform c) c (taken soft) l (some-list c l p soft x a) flags p (stop-inside c l p soft x a) t)
+
+module _ (c : Code) (l : ℕ) (soft : List ℤ) (x : Lent) (a : AcceptedCall c l (size c) soft x) where
+  -- what an accepted call at stop n comes to
+  abbrev whole : Decoding
+  whole = decodeOutcome c l (size c) soft x
+
+  -- At stop n the first row is a row of the code.
+  pub first-row-in-code : CodeRow c soft (firstRow (size c) whole)
+  unfolding encoded
+  first-row-in-code =
+      let f = first-of-call c l (size c) soft x a in
+      let s : List ℕ → ℤ = scoreOf (codeTransform c) c (taken soft) l in
+      let g = live-input c s l (subst (λ (n : ℕ). In (f .prefix) (live (codeTransform c) c (taken soft) l n)) (sym (flags c l (size c) soft x a)) (leads-in s (f .ahead-of))) in
+      record {
+        payload = g .payload;
+        long = g .long;
+        bits = g .bits;
+        is = f .is ∙ row-of-whole (codeTransform c) c (taken soft) l (f .prefix) (f .long) ∙ ap (wholeRow (codeTransform c) c (taken soft) l) (g .is);
+      }
+
+  -- At stop n, with ceiling and first score equal, the first row is a best word: a row of the code, and no word of the code correlates higher.
+  pub first-row-is-best : ceilingOf (whole .answer) ≡ firstRow (size c) whole .score → BestRow c soft (firstRow (size c) whole)
+  first-row-is-best e = record { in-code = first-row-in-code; none-above = subst (NoneAbove c soft) e (no-code-word-above c l (size c) soft x a) }
+
+-- Then no list size gains: the first row of another accepted call at stop n for the same code and soft values scores no higher.
+pub no-list-size-gains : (c : Code) (l l′ : ℕ) (soft : List ℤ) (x x′ : Lent) → AcceptedCall c l (size c) soft x → AcceptedCall c l′ (size c) soft x′
+    → ceilingOf (decodeOutcome c l (size c) soft x .answer) ≡ firstRow (size c) (decodeOutcome c l (size c) soft x) .score
+    → T (leZ (firstRow (size c) (decodeOutcome c l′ (size c) soft x′) .score) (firstRow (size c) (decodeOutcome c l (size c) soft x) .score))
+no-list-size-gains c l l′ soft x x′ a a′ e =
+    let r = first-row-in-code c l′ soft x′ a′ in
+    subst (λ (z : ℤ). T (leZ z (firstRow (size c) (decodeOutcome c l (size c) soft x) .score))) (sym (ap (λ (q : Row). q .score) (r .is)))
+    (first-row-is-best c l soft x a e .none-above (r .payload) (r .long) (r .bits))

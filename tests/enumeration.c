@@ -1,0 +1,76 @@
+#include "enumeration.h"
+
+#include "reference_codec.h"
+
+#include <stdlib.h>
+#include <string.h>
+
+int32_t larger(int32_t x, int32_t y)
+{
+    return x > y ? x : y;
+}
+
+void bits_of(size_t number, size_t len, uint8_t *bits)
+{
+    for (size_t i = 0; i < len; i++)
+        bits[i] = (uint8_t)(number >> (len - 1 - i) & 1);
+}
+
+int32_t enumerated_score(size_t n, const int16_t *soft, const uint8_t *prefix, size_t len)
+{
+    uint8_t u[REFERENCE_MAX_N], word[REFERENCE_MAX_N];
+    int32_t most = INT32_MIN;
+    if (len > 0)
+        memcpy(u, prefix, len);
+    for (size_t rest = 0; rest < (size_t)1 << (n - len); rest++) {
+        bits_of(rest, n - len, u + len);
+        reference_transform(n, u, word);
+        most = larger(most, paper_correlation(n, soft, word));
+    }
+    return most;
+}
+
+static int compare_entries(const void *x, const void *y)
+{
+    const struct entry *a = x, *b = y;
+    if (a->score != b->score)
+        return a->score > b->score ? -1 : 1;
+    return a->prefix < b->prefix ? -1 : a->prefix > b->prefix;
+}
+
+void enumerated_lists(size_t n, const uint8_t *map, size_t l, const int16_t *soft, struct step *steps)
+{
+    steps[0] = (struct step){1, 1, {{0, enumerated_score(n, soft, NULL, 0)}}};
+    for (size_t at = 0; at < n; at++) {
+        const struct step *from = &steps[at];
+        struct step *to = &steps[at + 1];
+        to->count = 0;
+        for (size_t r = 0; r < from->live; r++) {
+            for (size_t bit = 0; bit < (reference_frozen(map, at) ? 1 : 2); bit++) {
+                struct entry *child = &to->child[to->count++];
+                uint8_t u[ENUMERATED_MAX_N];
+                child->prefix = 2 * from->child[r].prefix + bit;
+                bits_of(child->prefix, at + 1, u);
+                child->score = enumerated_score(n, soft, u, at + 1);
+            }
+        }
+        qsort(to->child, to->count, sizeof to->child[0], compare_entries);
+        to->live = to->count < l ? to->count : l;
+    }
+}
+
+int32_t enumerated_best(size_t n, const uint8_t *map, const int16_t *soft)
+{
+    size_t k = reference_clear(map, n);
+    int32_t most = INT32_MIN;
+    for (size_t number = 0; number < (size_t)1 << k; number++) {
+        uint8_t payload[ENUMERATED_MAX_N], u[ENUMERATED_MAX_N], word[ENUMERATED_MAX_N];
+        size_t taken = 0;
+        bits_of(number, k, payload);
+        for (size_t i = 0; i < n; i++)
+            u[i] = reference_frozen(map, i) ? 0 : payload[taken++];
+        reference_transform(n, u, word);
+        most = larger(most, paper_correlation(n, soft, word));
+    }
+    return most;
+}
