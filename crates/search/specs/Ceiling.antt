@@ -1,29 +1,31 @@
 -- The ceiling over the whole code: 02, wish 5. A decoder call's ceiling against every word of the code, at any stop position, and
 -- what its equality with the first score says of the first row at stop n.
 use mathlib.Core.Path.{_≡_, sym, ap, subst, _∙_}
-use mathlib.Core.List.{List, _++_, append-nil}
+use mathlib.Core.List.{List, [], append-nil}
 use Prim.Native.Nat.{ℕ, _-_, _≤_}
 use native.Mathlib.Omega.{arith}
 use lib.ListN.{length, take, drop, length-take, length-drop, take-append-drop}
 use lib.Dec.{T}
-use lib.IntN.{ℤ, pos}
+use lib.IntN.{ℤ, pos, +ℤ-idr}
 use lib.Signed.{leZ}
 use Rattle.spec.specs.Bits.{Bits}
 use Rattle.spec.specs.Code.{Code, size, frozen, payloadSize, spread, codeTransform, encoded}
 use Rattle.spec.specs.Score.{correlation, largest, score, taken}
-use Rattle.spec.specs.Decoder.{Row, children, scoreOf, live, rowOf, ceiling}
+use Rattle.spec.specs.Decoder.{Row, children, scoreOf, live, rowOf, liveBy, droppedBy, ceilingBy, ceiling}
 use Rattle.spec.specs.ScoreIsLargest.{no-completion-above}
-use Rattle.spec.specs.Refusals.{runFaults, tableFaults}
+use Rattle.spec.specs.RowCount.{length-frozen}
 use Rattle.spec.specs.Outcome.{Answer, decoded, refusedBy, Lent, roomOf, Decoding, decodeServed, decodeOutcome}
 use Rattle.laws.specs.BitLaws.{bits-drop}
 use Rattle.laws.specs.FrozenMap.{length-spread, bits-spread}
+use Rattle.laws.specs.Cost.{magnitude}
+use Rattle.laws.specs.Layer.{cost-empty}
+use Rattle.laws.specs.ScoreCost.{scoreFrom, score-is}
+use Rattle.laws.specs.Taken.{length-taken}
 use Rattle.laws.specs.ListCost.{goes}
-use Rattle.laws.specs.FirstFault.{none-before, end, next}
-use Rattle.laws.specs.Accepted.{accepted-of, flag-count}
-use Rattle.laws.specs.DecodeCall.{AcceptedCall, accepted-faults, accepted-is}
+use Rattle.laws.specs.DecodeCall.{AcceptedCall, accepted-faults, accepted-is, map-right, soft-long}
 use Rattle.search.specs.ListSearch.{In, leads-in}
 use Rattle.search.specs.SearchCeiling.{none-above-ceiling}
-use Rattle.search.specs.CodeInputs.{input-follows, live-input}
+use Rattle.search.specs.CodeInputs.{OfPayload, input-follows, live-input}
 use Rattle.search.specs.FirstRow.{firstRow, some-list, stop-inside, first-of-call}
 
 -- ---- the statements' words
@@ -37,11 +39,8 @@ abbrev pub rowOfPayload : Code → List ℤ → List ℕ → Row
 rowOfPayload c soft p = record { input = spread (frozen c) p; word = encoded c p; score = correlation (taken soft) (encoded c p) }
 
 -- a row is that of a payload of k bits
-pub record CodeRow (c : Code) (soft : List ℤ) (r : Row) : Type 0 where
-  pub payload : List ℕ
-  pub long : length payload ≡ payloadSize c
-  pub bits : Bits payload
-  pub is : r ≡ rowOfPayload c soft payload
+abbrev pub CodeRow : Code → List ℤ → Row → Type 0
+CodeRow c soft = OfPayload c (rowOfPayload c soft)
 
 -- no word of the code correlates above z
 abbrev pub NoneAbove : Code → List ℤ → ℤ → Type 0
@@ -81,7 +80,7 @@ module _ (T′ : List ℕ → List ℕ) (c : Code) (y : List ℤ) (l : ℕ) wher
 module _ (c : Code) (l p : ℕ) (soft : List ℤ) (x : Lent) (a : AcceptedCall c l p soft x) where
   -- there is a flag for each position
   flags : length (frozen c) ≡ size c
-  flags = flag-count (accepted-of (none-before (runFaults (size c) l p soft ++ tableFaults (size c) l (roomOf x)) (next (next (next end))) (accepted-faults c l p soft x a)))
+  flags = length-frozen c (map-right c l p soft (roomOf x) (accepted-faults c l p soft x a))
 
   -- the call gives the ceiling of the decoder on paper
   ceiling-is : ceilingOf (decodeOutcome c l p soft x .answer) ≡ ceiling (codeTransform c) c (taken soft) l p
@@ -94,6 +93,17 @@ module _ (c : Code) (l p : ℕ) (soft : List ℤ) (x : Lent) (a : AcceptedCall c
   no-code-word-above payload e t =
       subst (λ (z : ℤ). T (leZ (correlation (taken soft) (codeTransform c (spread (frozen c) payload))) z)) (sym ceiling-is)
       (none-above-paper (codeTransform c) c (taken soft) l (some-list c l p soft x a) flags p (stop-inside c l p soft x a) t)
+
+-- At stop 0, where nothing is decided yet, the ceiling is the sum of the magnitudes.
+pub ceiling-at-stop-0 : (c : Code) (l : ℕ) (soft : List ℤ) (x : Lent) → AcceptedCall c l 0 soft x
+    → ceilingOf (decodeOutcome c l 0 soft x .answer) ≡ pos (magnitude (taken soft))
+unfolding liveBy droppedBy ceilingBy
+ceiling-at-stop-0 c l soft x a =
+    let y : List ℤ = taken soft in
+    ceiling-is c l 0 soft x a
+    ∙ score-is (c .m) y [] (length-taken soft ∙ soft-long c l 0 soft (roomOf x) (accepted-faults c l 0 soft x a)) (omega arith)
+    ∙ ap (scoreFrom (magnitude y)) (cost-empty (c .m) y)
+    ∙ +ℤ-idr (pos (magnitude y))
 
 module _ (c : Code) (l : ℕ) (soft : List ℤ) (x : Lent) (a : AcceptedCall c l (size c) soft x) where
   -- what an accepted call at stop n comes to

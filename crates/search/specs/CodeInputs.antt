@@ -17,6 +17,13 @@ use Rattle.laws.specs.FrozenMap.{length-spread, length-gathered, spread-gathere
 use Rattle.laws.specs.ListCost.{All, none, more, live-all}
 use Rattle.search.specs.ListSearch.{In, here, there, all-in, Follows}
 
+-- a is what f gives for a payload of k bits
+pub record OfPayload {A : Type 0} (c : Code) (f : List ℕ → A) (a : A) : Type 0 where
+  pub payload : List ℕ
+  pub long : length payload ≡ payloadSize c
+  pub bits : Bits payload
+  pub is : a ≡ f payload
+
 -- ---- a payload's input is allowed
 -- at each position the bit of a payload's input is one by which a prefix goes on
 spread-goes : (fs : List ℕ) {p : List ℕ} → Bits p → (i : ℕ) (w : List ℕ) → In (w ++ getD (spread fs p) i 0 ∷ []) (continued (getD fs i 0) w)
@@ -80,12 +87,8 @@ module _ (c : Code) where
       by-flag zero e = more (child 0 (omega arith) (inr refl)) (more (child 1 (omega arith) (inl e)) none)
       by-flag (suc f) e = more (child 0 (omega arith) (inr refl)) none
 
-  -- u is the input of a payload of k bits
-  pub record Input (u : List ℕ) : Type 0 where
-    pub payload : List ℕ
-    pub long : length payload ≡ payloadSize c
-    pub bits : Bits payload
-    pub is : u ≡ spread (frozen c) payload
+  abbrev pub Input : List ℕ → Type 0
+  Input = OfPayload c (spread (frozen c))
 
   allowed-input : {u : List ℕ} → Allowed c (length (frozen c)) u → Input u
   allowed-input {u} a = record {
