@@ -79,19 +79,20 @@ $(HOSTS:%=$(OUT)/%): $(OUT)/%: examples/%.c include/caldurrex.h $(LIBRARY)
 	@mkdir -p $(OUT)
 	$(CC) $(CFLAGS) -pthread -Iinclude -o $@ $< $(LIBRARY)
 
-BENCH = bench/bench_codec.c tests/draw.c tests/reference_codec.c
+BENCH = bench/bench_codec.c tests/pairs.c tests/draw.c tests/reference_codec.c
 
-$(OUT)/bench_codec: $(BENCH) include/caldurrex.h tests/draw.h tests/reference_codec.h $(LIBRARY)
+$(OUT)/bench_codec: $(BENCH) include/caldurrex.h tests/pairs.h tests/draw.h tests/reference_codec.h $(LIBRARY)
 	@mkdir -p $(OUT)
 	$(CC) $(CFLAGS) -Iinclude -Itests -o $@ $(BENCH) $(LIBRARY)
 
-BENCH_DECODER = bench/bench_decoder.c bench/plain_decoder.c tests/draw.c
+BENCH_DECODER = bench/bench_decoder.c bench/plain_decoder.c tests/pairs.c tests/draw.c tests/reference_codec.c
+BENCH_HEADERS = bench/plain_decoder.h include/caldurrex.h tests/pairs.h tests/draw.h tests/reference_codec.h
 
 # The plain C decoder is compiled for speed, or the comparison would not be fair.
-$(OUT)/bench_decoder: $(BENCH_DECODER) bench/plain_decoder.h include/caldurrex.h tests/draw.h $(LIBRARY)
+$(OUT)/bench_decoder: $(BENCH_DECODER) $(BENCH_HEADERS) $(LIBRARY)
 	@mkdir -p $(OUT)
 	$(CC) $(CFLAGS) -O3 -Iinclude -Itests -o $@ $(BENCH_DECODER) $(LIBRARY)
 
-$(OUT)/make_records: $(RECORDS) tests/paper_decoder.h tests/reference_codec.h tests/reference_job.h
+$(OUT)/make_records: $(RECORDS) tests/paper_decoder.h tests/record_plan.h tests/reference_codec.h tests/reference_job.h
 	@mkdir -p $(OUT)
 	$(CC) $(CFLAGS) -Itests -o $@ $(RECORDS)

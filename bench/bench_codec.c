@@ -1,8 +1,9 @@
 /*
  * Speed of the encoder and the extractor, half of the positions frozen.
  *
- *   bench_codec                     blocks a second at n = 64, 256 and 1024
- *   bench_codec encode|extract|transform M COUNT
+ *   bench_codec                     blocks a second at n = 64, 256 and 1024, and at
+ *                                   n = 1024 with 256 pairs
+ *   bench_codec encode|extract|transform M COUNT [PAIRS]
  *                                   COUNT blocks of one kind and nothing printed,
  *                                   to be counted by a tool
  *
@@ -11,6 +12,7 @@
  */
 #include "caldurrex.h"
 #include "draw.h"
+#include "pairs.h"
 #include "reference_codec.h"
 
 #include <stdio.h>
@@ -27,6 +29,7 @@ struct block {
     uint32_t m;
     size_t n;
     uint8_t map[MAX_N / 8], payload[MAX_N / 2], input[MAX_N], word[MAX_N];
+    struct pairs pairs;
 };
 
 static void need(int ok, const char *what)
@@ -37,8 +40,8 @@ static void need(int ok, const char *what)
     }
 }
 
-/* A code with a random half frozen, always the same, and a block of it. */
-static void make_block(struct block *b, uint32_t m)
+/* A code with a random half frozen, always the same, with so many pairs, and a block of it. */
+static void make_block(struct block *b, uint32_t m, size_t pairs)
 {
     memset(b, 0, sizeof *b);
     b->m = m;
@@ -49,10 +52,10 @@ static void make_block(struct block *b, uint32_t m)
         frozen += !reference_frozen(b->map, i);
         b->map[i / 8] |= (uint8_t)(1u << (i % 8));
     }
-    size_t taken = 0;
-    for (size_t i = 0; i < b->n; i++)
-        if (!reference_frozen(b->map, i))
-            b->input[i] = b->payload[taken++] = (uint8_t)draw_below(2);
+    for (size_t i = 0; i < b->n / 2; i++)
+        b->payload[i] = (uint8_t)draw_below(2);
+    pairs_spread(&b->pairs, b->map, b->n, pairs);
+    reference_input(b->n, b->map, b->pairs.bytes, b->pairs.len, b->payload, b->input);
     reference_transform(b->n, b->input, b->word);
 }
 
@@ -60,12 +63,12 @@ static void run_blocks(const struct block *b, enum kind kind, unsigned long coun
 {
     static uint8_t out[MAX_N];
     uint32_t refusals = 0;
-    size_t map_len = b->n / 8, k = b->n / 2;
+    size_t map_len = b->n / 8, k = b->n / 2, pairs_len = b->pairs.len;
     for (unsigned long i = 0; i < count; i++) {
         if (kind == ENCODE)
-            refusals |= caldurrex_encode(b->m, b->map, map_len, b->payload, k, out, b->n);
+            refusals |= caldurrex_encode(b->m, b->map, map_len, b->pairs.bytes, pairs_len, b->payload, k, out, b->n);
         else if (kind == EXTRACT)
-            refusals |= caldurrex_extract(b->m, b->map, map_len, b->word, b->n, out, k);
+            refusals |= caldurrex_extract(b->m, b->map, map_len, b->pairs.bytes, pairs_len, b->word, b->n, out, k);
         else
             reference_transform(b->n, b->input, out);
     }
@@ -86,17 +89,25 @@ static double blocks_a_second(const struct block *b, enum kind kind)
     }
 }
 
+static void time_one(uint32_t m, size_t pairs)
+{
+    struct block b;
+    make_block(&b, m, pairs);
+    if (pairs == 0)
+        printf("n = %-4zu      ", b.n);
+    else
+        printf("with %zu pairs", pairs);
+    for (int kind = 0; kind < KINDS; kind++)
+        printf(" %8.0f", blocks_a_second(&b, (enum kind)kind));
+    printf("\n");
+}
+
 static void time_all(void)
 {
     printf("blocks a second   encode  extract  transform of the reference\n");
-    for (uint32_t m = 6; m <= REFERENCE_MAX_M; m += 2) {
-        struct block b;
-        make_block(&b, m);
-        printf("n = %-4zu      ", b.n);
-        for (int kind = 0; kind < KINDS; kind++)
-            printf(" %8.0f", blocks_a_second(&b, (enum kind)kind));
-        printf("\n");
-    }
+    for (uint32_t m = 6; m <= REFERENCE_MAX_M; m += 2)
+        time_one(m, 0);
+    time_one(REFERENCE_MAX_M, PAIRS_MOST);
 }
 
 int main(int argc, char **argv)
@@ -105,14 +116,14 @@ int main(int argc, char **argv)
         time_all();
         return 0;
     }
-    need(argc == 4, "give a kind, m and a count, or nothing");
+    need(argc == 4 || argc == 5, "give a kind, m, a count and a number of pairs, or nothing");
     int kind = 0;
     while (kind < KINDS && strcmp(argv[1], kind_name[kind]) != 0)
         kind++;
-    unsigned long m = strtoul(argv[2], NULL, 10);
-    need(kind < KINDS && m >= 3 && m <= REFERENCE_MAX_M, "no such kind or m");
+    unsigned long m = strtoul(argv[2], NULL, 10), pairs = argc == 5 ? strtoul(argv[4], NULL, 10) : 0;
+    need(kind < KINDS && m >= 3 && m <= REFERENCE_MAX_M && pairs <= PAIRS_MOST, "no such kind, m or number of pairs");
     struct block b;
-    make_block(&b, (uint32_t)m);
+    make_block(&b, (uint32_t)m, pairs);
     run_blocks(&b, (enum kind)kind, strtoul(argv[3], NULL, 10));
     return 0;
 }

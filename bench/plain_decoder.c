@@ -34,6 +34,8 @@ struct decoder {
     uint32_t cost[MAX_LIST];
     uint8_t place[MAX_LIST]; /* of path r's prefix among the live ones in lexicographic order */
     uint32_t dropped;        /* the least key of a dropped child; its cost is the least too */
+    const uint8_t *pairs;    /* four bytes each; the first next_pair have their f below the position */
+    int pair_count, next_pair;
 };
 
 /* The children of a position that stay, best first. */
@@ -238,13 +240,38 @@ static uint32_t insert(struct children *c, int most, uint32_t key, int parent)
     return dropped;
 }
 
+/* One of the two positions of a pair, in two bytes. */
+static int place_in(const uint8_t *two)
+{
+    return two[0] + 256 * two[1];
+}
+
+/* The sum of path r's bits at the e of the pairs from `first` on, below `end`, which have
+ * this position for their f. The bits are read back from the history, the last one first. */
+static uint8_t own_sum(const struct decoder *d, int r, int position, int first, int end)
+{
+    uint8_t sum = 0;
+    for (int at = position - 1; end > first; at--) {
+        uint8_t step = d->history[at * d->l + r];
+        if (place_in(d->pairs + 4 * end - 2) == at) {
+            sum ^= step % 2;
+            end--;
+        }
+        r = step / 2;
+    }
+    return sum;
+}
+
 static void split(struct decoder *d, int position, int frozen, struct children *c)
 {
+    int first = d->next_pair;
+    while (d->next_pair < d->pair_count && place_in(d->pairs + 4 * d->next_pair) == position)
+        d->next_pair++;
     c->count = 0;
     for (int r = 0; r < d->count; r++) {
-        uint32_t cost[2];
+        uint32_t cost[2], from = frozen ? own_sum(d, r, position, first, d->next_pair) : 0, to = frozen ? from : 1;
         child_costs(d, r, position, cost);
-        for (uint32_t bit = 0; bit < (frozen ? 1 : 2); bit++)
+        for (uint32_t bit = from; bit <= to; bit++)
             d->dropped = least(d->dropped, insert(c, d->l, cost[bit] * 64 + 2u * d->place[r] + bit, r));
     }
 }
@@ -297,14 +324,15 @@ static void read_back(const struct decoder *d, int rank, int stop, uint8_t *inpu
     }
 }
 
-struct plain_decoded plain_decode(int m, const uint8_t *map, int list_size, int stop, const int16_t *soft,
-                                  uint32_t *numbers, uint8_t *bytes, uint8_t *inputs, uint8_t *words,
-                                  int32_t *scores)
+struct plain_decoded plain_decode(int m, const uint8_t *map, const uint8_t *pairs, int pair_count, int list_size,
+                                  int stop, const int16_t *soft, uint32_t *numbers, uint8_t *bytes, uint8_t *inputs,
+                                  uint8_t *words, int32_t *scores)
 {
     int n = 1 << m, l = list_size, magnitudes = 0;
     struct decoder d = {.m = m, .n = n, .l = l, .count = 1, .windows = numbers, .bottom = numbers + 8 * n * l,
                         .even = bytes, .sum = bytes + n * l / 2, .odd = bytes + n * l,
-                        .history = bytes + 3 * n * l / 2, .dropped = UINT32_MAX};
+                        .history = bytes + 3 * n * l / 2, .dropped = UINT32_MAX, .pairs = pairs,
+                        .pair_count = pair_count};
     for (int i = 0; i < n; i++)
         magnitudes += abs(taken(soft[i]));
     start(&d, soft);

@@ -19,6 +19,9 @@ enum { THREADS = 4, LINKS = 12, ROUNDS = 6, MAX_N = 1024, MAX_LIST = 32 };
 
 /* ---- links */
 
+/* No code here has pairs: an empty slice, whose pointer is not null. */
+static const uint8_t no_pairs[1];
+
 /* A code, a list size, and a state from which payloads and noise are drawn. */
 struct link {
     uint32_t m, list_size;
@@ -74,7 +77,7 @@ static int receive(struct link *link, uint8_t *payload, int16_t *soft)
     uint8_t word[MAX_N];
     for (size_t i = 0; i < link->k; i++)
         payload[i] = draw(link) >> 16 & 1;
-    if (caldurrex_encode(link->m, link->map, map_len(link), payload, link->k, word, link->n) != 0)
+    if (caldurrex_encode(link->m, link->map, map_len(link), no_pairs, 0, payload, link->k, word, link->n) != 0)
         return 0;
     for (size_t i = 0; i < link->n; i++)
         soft[i] = (int16_t)((word[i] ? -20 : 20) + (int)(draw(link) % 61) - 30);
@@ -133,8 +136,8 @@ static void free_memory(struct memory *lent)
 
 static struct caldurrex_decoded decode(const struct link *link, const int16_t *soft, const struct memory *lent)
 {
-    return caldurrex_decode(link->m, link->map, map_len(link), link->list_size, (uint32_t)link->n, soft, link->n,
-                            lent->numbers, lent->numbers_len, lent->bytes, lent->bytes_len,
+    return caldurrex_decode(link->m, link->map, map_len(link), no_pairs, 0, link->list_size, (uint32_t)link->n,
+                            soft, link->n, lent->numbers, lent->numbers_len, lent->bytes, lent->bytes_len,
                             lent->inputs, lent->rows_len, lent->words, lent->rows_len,
                             lent->scores, lent->scores_len);
 }

@@ -9,11 +9,17 @@
 
 #include <stdio.h>
 
-/* A code: n = 2^m positions, and the frozen ones among them. */
+/* A code: n = 2^m positions, the frozen ones among them, and the pairs. */
 struct code {
     uint32_t m;
-    size_t n, k;
-    uint8_t map[128]; /* room for n = 1024 */
+    size_t n, k, pairs_len;
+    uint8_t map[128];    /* room for n = 1024 */
+    uint8_t pairs[1024]; /* room for 256 pairs of four bytes */
+};
+
+/* The bit at the frozen position f is the sum of those at all e that stand with it. */
+struct pair {
+    uint16_t f, e;
 };
 
 /* Freezes the listed positions and counts the others. */
@@ -28,6 +34,17 @@ static struct code make_code(uint32_t m, const size_t *frozen, size_t frozen_len
     }
     printf("\n");
     return code;
+}
+
+/* Adds a pair behind those that the code has: they must rise by f, then by e. */
+static void add_pair(struct code *code, struct pair pair)
+{
+    const uint16_t numbers[2] = {pair.f, pair.e};
+    for (int i = 0; i < 2; i++) { /* low byte first */
+        code->pairs[code->pairs_len++] = (uint8_t)numbers[i];
+        code->pairs[code->pairs_len++] = (uint8_t)(numbers[i] >> 8);
+    }
+    printf("  pair (%u, %u)\n", pair.f, pair.e);
 }
 
 /* The call wants exactly this many bytes of the map. */
@@ -53,6 +70,7 @@ static const char *reason(uint32_t refusal)
     case CALDURREX_SHORT_OUTPUT: return "the output is too short";
     case CALDURREX_NOT_A_BIT: return "a payload or word byte is above 1";
     case CALDURREX_NOT_A_CODE_WORD: return "the word is not in the code";
+    case CALDURREX_BAD_PAIRS: return "a pair breaks its rules";
     default: return "unknown";
     }
 }
@@ -60,7 +78,8 @@ static const char *reason(uint32_t refusal)
 /* Encodes the payload into word, which has room for n bytes. */
 static uint32_t encode(const struct code *code, const uint8_t *payload, uint8_t *word)
 {
-    uint32_t refusal = caldurrex_encode(code->m, code->map, map_len(code), payload, code->k, word, code->n);
+    uint32_t refusal = caldurrex_encode(code->m, code->map, map_len(code), code->pairs, code->pairs_len, payload,
+                                        code->k, word, code->n);
     print_bits("  encode  payload", payload, code->k);
     if (refusal == 0)
         print_bits(" gives word", word, code->n);
@@ -73,7 +92,8 @@ static uint32_t encode(const struct code *code, const uint8_t *payload, uint8_t 
 /* Extracts the word's payload, which has room for k bytes. */
 static uint32_t extract(const struct code *code, const uint8_t *word, uint8_t *payload)
 {
-    uint32_t refusal = caldurrex_extract(code->m, code->map, map_len(code), word, code->n, payload, code->k);
+    uint32_t refusal = caldurrex_extract(code->m, code->map, map_len(code), code->pairs, code->pairs_len, word,
+                                         code->n, payload, code->k);
     print_bits("  extract word", word, code->n);
     if (refusal == 0)
         print_bits(" gives payload", payload, code->k);
@@ -109,5 +129,17 @@ int main(void)
     const uint8_t payload_8[] = {1, 0, 1, 1, 0, 0, 1, 0};
     const uint8_t outside_16[16] = {0, 0, 0, 0, 0, 1};
     struct code larger = make_code(4, frozen_16, 8);
-    return show(&larger, payload_8, outside_16) ? 0 : 1;
+    if (!show(&larger, payload_8, outside_16))
+        return 1;
+
+    /* The payload's bits are those at 3, 5 and 7; the bit at 4 follows that at 3, and the bit
+     * at 6 the sum of those at 3 and 5. Outside is the word whose bits at 4 and 6 are 0. */
+    const size_t frozen_8[] = {0, 1, 2, 4, 6};
+    const struct pair pairs[] = {{4, 3}, {6, 3}, {6, 5}};
+    const uint8_t payload_3[] = {1, 0, 1};
+    const uint8_t outside_8[] = {0, 0, 0, 0, 1, 1, 1, 1};
+    struct code subcode = make_code(3, frozen_8, 5);
+    for (size_t i = 0; i < 3; i++)
+        add_pair(&subcode, pairs[i]);
+    return show(&subcode, payload_3, outside_8) ? 0 : 1;
 }

@@ -13,7 +13,7 @@
 enum { N = 64, LIST = 4 };
 
 /* The reader's outputs: enough for every record, also for one that is not decoded. */
-static uint8_t map[128];
+static uint8_t map[128], pairs[1024];
 static int16_t soft[1024];
 
 /* Lent to the decoder. */
@@ -22,11 +22,22 @@ static uint8_t bytes[CALDURREX_BYTES(N, LIST)];
 static uint8_t inputs[CALDURREX_ROWS(N, LIST)], words[CALDURREX_ROWS(N, LIST)];
 static int32_t scores[LIST];
 
-static const uint8_t record[] = {
+static const uint8_t sample[] = {
     0x01,                                           /* of the fields only the list size is present */
     0x02,                                           /* m: n = 4 */
     0x02,                                           /* list size */
     0x03,                                           /* positions 0 and 1 are frozen */
+    0x05, 0x00, 0xfd, 0xff, 0x02, 0x00, 0x07, 0x00, /* soft values 5 -3 2 7 */
+};
+
+static const uint8_t paired[] = {
+    0x09,                                           /* the list size and the pairs are present */
+    0x02,                                           /* m: n = 4 */
+    0x02,                                           /* list size */
+    0x0d,                                           /* positions 0, 2 and 3 are frozen */
+    0x03, 0x00,                                     /* three pairs */
+    0x02, 0x00, 0x01, 0x00,                         /* the bit at 2 is that at 1 */
+    0x03, 0x00, 0x01, 0x00, 0x03, 0x00, 0x02, 0x00, /* the bit at 3 is the sum of those at 1 and 2 */
     0x05, 0x00, 0xfd, 0xff, 0x02, 0x00, 0x07, 0x00, /* soft values 5 -3 2 7 */
 };
 
@@ -38,13 +49,13 @@ static void print_bits(const char *name, const uint8_t *bits, size_t n)
 }
 
 /* Decodes the record that was read last, and prints the rows, best first; the refusal.
- * The reader has set all of both outputs; the decoder takes as much of them as the code
- * needs. */
+ * The reader has set all of its three outputs; the decoder takes as much of them as the
+ * code needs, four bytes for each pair. */
 static uint32_t decode(const struct caldurrex_job *job)
 {
     size_t n = (size_t)1 << job->m;
     struct caldurrex_decoded answer =
-        caldurrex_decode(job->m, map, (n + 7) / 8, job->list_size, job->stop, soft, n,
+        caldurrex_decode(job->m, map, (n + 7) / 8, pairs, 4 * (size_t)job->pairs, job->list_size, job->stop, soft, n,
                          numbers, sizeof numbers / sizeof numbers[0], bytes, sizeof bytes,
                          inputs, sizeof inputs, words, sizeof words, scores, LIST);
     for (uint32_t r = 0; r < answer.rows; r++) {
@@ -56,24 +67,25 @@ static uint32_t decode(const struct caldurrex_job *job)
     return answer.refusal;
 }
 
-/* Reads the first len bytes of the record, and decodes what was read; the refusal. */
-static uint32_t show(size_t len)
+/* Reads the first len bytes of a record, and decodes what was read; the refusal. */
+static uint32_t show(const uint8_t *record, size_t len)
 {
-    struct caldurrex_job job = caldurrex_read_job(record, len, map, sizeof map, soft, sizeof soft / sizeof soft[0]);
+    struct caldurrex_job job = caldurrex_read_job(record, len, map, sizeof map, soft, sizeof soft / sizeof soft[0],
+                                                  pairs, sizeof pairs);
     printf("record of %zu bytes", len);
     if (job.refusal != 0) {
         printf(" is refused with %u\n", (unsigned)job.refusal);
         return job.refusal;
     }
-    printf(": m %u, list size %u, stop %u, frame %u\n", (unsigned)job.m, (unsigned)job.list_size,
-           (unsigned)job.stop, (unsigned)job.frame);
+    printf(": m %u, list size %u, stop %u, frame %u, pairs %u\n", (unsigned)job.m, (unsigned)job.list_size,
+           (unsigned)job.stop, (unsigned)job.frame, (unsigned)job.pairs);
     return decode(&job);
 }
 
 int main(void)
 {
-    if (show(sizeof record) != 0)
+    if (show(sample, sizeof sample) != 0 || show(paired, sizeof paired) != 0)
         return 1;
     /* A record must be exactly as long as its fields need. */
-    return show(sizeof record - 1) == CALDURREX_BAD_RECORD_LENGTH ? 0 : 1;
+    return show(sample, sizeof sample - 1) == CALDURREX_BAD_RECORD_LENGTH ? 0 : 1;
 }

@@ -7,9 +7,19 @@
  * position i is frozen. For n = 4 the four high bits are 0. k is the number of
  * positions that are not frozen; it may be 0 or n.
  *
+ * A code may have up to 256 pairs (f, e): f is frozen, e is below f, and the pairs
+ * rise by f, then by e, none of them twice. The bit at a frozen position f is the sum
+ * modulo 2 of the bits at all e that stand with it, or 0 if it has no pair. An e may
+ * be frozen too. In memory a pair is four bytes: f, then e, each two bytes with the
+ * low byte first. Pairs follow one another with nothing in front; a code without any
+ * passes an empty slice.
+ *
  * The input of the transform has the payload bits at the positions that are not
- * frozen, in rising order, and 0 at each frozen one. The code word is its
- * transform. Payload and word are bytes of value 0 or 1, one for each bit.
+ * frozen, in rising order, and at each frozen one the bit that its pairs give. The
+ * code word is its transform. Payload and word are bytes of value 0 or 1, one for
+ * each bit. With n = 4, frozen 0, 2 and 3 and the pairs (2, 1), (3, 1) and (3, 2),
+ * which are the bytes 2 0 1 0  3 0 1 0  3 0 2 0, the payload 1 has the input 0110:
+ * the bit at 2 is that at 1, and the bit at 3 the sum of both, 0.
  *
  * A slice is a pointer and the number of its elements: bytes, or numbers of 16 or
  * 32 bits where the pointer is to such. Each slice must be real memory of that
@@ -39,15 +49,17 @@ enum caldurrex_refusal {
     CALDURREX_SHORT_BYTES = 9,        /* byte tables too short */
     CALDURREX_SHORT_OUTPUT = 10,      /* an output too short */
     CALDURREX_NOT_A_BIT = 11,         /* payload or word byte above 1 */
-    CALDURREX_NOT_A_CODE_WORD = 12,   /* a frozen input bit of the word is 1 */
+    CALDURREX_NOT_A_CODE_WORD = 12,   /* a frozen input bit of the word breaks its rule */
     CALDURREX_BAD_RECORD_LENGTH = 13, /* record not as long as its fields need */
-    CALDURREX_BAD_FIELD_MAP = 14      /* bits 3 to 7 of a record's first byte not 0 */
+    CALDURREX_BAD_FIELD_MAP = 14,     /* bits 4 to 7 of a record's first byte not 0 */
+    CALDURREX_BAD_PAIRS = 15          /* a wrong pair, a part of a pair, or above 256 of them */
 };
 
 /*
  * Encodes a payload.
  *
  *   map      the frozen map, ceil(n/8) bytes
+ *   pairs    four bytes a pair
  *   payload  k bytes
  *   word     at least n bytes; the first n become the code word, and all
  *            behind them up to word_len becomes 0
@@ -57,6 +69,9 @@ enum caldurrex_refusal {
  *   1   CALDURREX_BAD_M             m outside 2..10
  *   2   CALDURREX_BAD_MAP_LENGTH    map_len is not ceil(n/8)
  *   3   CALDURREX_BAD_MAP_BIT       a map bit past n is set
+ *   15  CALDURREX_BAD_PAIRS         pairs_len is not a multiple of 4 or above 1024; an f
+ *                                   is not frozen, or at or past n; an e is not below its
+ *                                   f; a pair is not above the one before it
  *   6   CALDURREX_BAD_INPUT_LENGTH  payload_len is not k
  *   11  CALDURREX_NOT_A_BIT         a payload byte is above 1
  *   10  CALDURREX_SHORT_OUTPUT      word_len is below n
@@ -64,6 +79,7 @@ enum caldurrex_refusal {
  * A refused call writes nowhere.
  */
 uint32_t caldurrex_encode(uint32_t m, const uint8_t *map, size_t map_len,
+                          const uint8_t *pairs, size_t pairs_len,
                           const uint8_t *payload, size_t payload_len,
                           uint8_t *word, size_t word_len);
 
@@ -71,6 +87,7 @@ uint32_t caldurrex_encode(uint32_t m, const uint8_t *map, size_t map_len,
  * Extracts the payload of a code word.
  *
  *   map      the frozen map, ceil(n/8) bytes
+ *   pairs    four bytes a pair
  *   word     n bytes
  *   payload  at least k bytes; the first k become the payload, and all behind
  *            them up to payload_len becomes 0
@@ -80,14 +97,17 @@ uint32_t caldurrex_encode(uint32_t m, const uint8_t *map, size_t map_len,
  *   1   CALDURREX_BAD_M             m outside 2..10
  *   2   CALDURREX_BAD_MAP_LENGTH    map_len is not ceil(n/8)
  *   3   CALDURREX_BAD_MAP_BIT       a map bit past n is set
+ *   15  CALDURREX_BAD_PAIRS         as for caldurrex_encode
  *   6   CALDURREX_BAD_INPUT_LENGTH  word_len is not n
  *   11  CALDURREX_NOT_A_BIT         a word byte is above 1
- *   12  CALDURREX_NOT_A_CODE_WORD   the word's input has a 1 at a frozen position
+ *   12  CALDURREX_NOT_A_CODE_WORD   the word's input has at a frozen position another
+ *                                   bit than its pairs give, 0 where it has none
  *   10  CALDURREX_SHORT_OUTPUT      payload_len is below k
  *
  * A refused call writes nowhere.
  */
 uint32_t caldurrex_extract(uint32_t m, const uint8_t *map, size_t map_len,
+                           const uint8_t *pairs, size_t pairs_len,
                            const uint8_t *word, size_t word_len,
                            uint8_t *payload, size_t payload_len);
 
@@ -113,12 +133,14 @@ struct caldurrex_decoded {
  * negated where the word has a 1. The score of a prefix is the largest correlation
  * of a transform over all inputs that begin with the prefix, whatever is frozen
  * behind it. The list begins as the empty prefix. Position by position, each prefix
- * goes on with 0 where the position is frozen and with both bits where it is not,
- * and then the list_size best stay: higher score first, then the one with 0 at the
- * first place where two differ. After stop positions the list in this order is the
- * result, rank 0 first.
+ * goes on where the position is frozen with the bit that its pairs give, which is the
+ * sum of the prefix's own bits, and where it is not with both bits; and then the
+ * list_size best stay: higher score first, then the one with 0 at the first place
+ * where two differ. After stop positions the list in this order is the result, rank 0
+ * first.
  *
  *   map        the frozen map, ceil(n/8) bytes
+ *   pairs      four bytes a pair
  *   list_size  l, 1 to 32
  *   stop       0 to n; n decodes whole words
  *   soft       n soft values
@@ -137,7 +159,7 @@ struct caldurrex_decoded {
  *
  * Once stop is past every frozen position, the first row is known early: its input
  * bytes below stop and scores[0] are those of the first row at stop n, for the same
- * m, map, list_size and soft. A display can decode with stop at the last frozen
+ * m, map, pairs, list_size and soft. A display can decode with stop at the last frozen
  * position + 1, show these, and decode on with a larger stop: what it has shown stays.
  * The input bytes from stop on, the word and the other rows are not known before n.
  *
@@ -156,6 +178,7 @@ struct caldurrex_decoded {
  *   1   CALDURREX_BAD_M             m outside 2..10
  *   2   CALDURREX_BAD_MAP_LENGTH    map_len is not ceil(n/8)
  *   3   CALDURREX_BAD_MAP_BIT       a map bit past n is set
+ *   15  CALDURREX_BAD_PAIRS         as for caldurrex_encode
  *   4   CALDURREX_BAD_LIST_SIZE     list_size outside 1..32
  *   5   CALDURREX_BAD_STOP          stop above n
  *   6   CALDURREX_BAD_INPUT_LENGTH  soft_len is not n
@@ -168,6 +191,7 @@ struct caldurrex_decoded {
  * A refused call writes nowhere.
  */
 struct caldurrex_decoded caldurrex_decode(uint32_t m, const uint8_t *map, size_t map_len,
+                                          const uint8_t *pairs, size_t pairs_len,
                                           uint32_t list_size, uint32_t stop,
                                           const int16_t *soft, size_t soft_len,
                                           uint32_t *numbers, size_t numbers_len,
@@ -176,10 +200,10 @@ struct caldurrex_decoded caldurrex_decode(uint32_t m, const uint8_t *map, size_t
                                           uint8_t *words, size_t words_len,
                                           int32_t *scores, size_t scores_len);
 
-/* What a record says. refusal is 0 if it was read; else it is the number of the
- * refusal, and the other four are 0. */
+/* What a record says; pairs is the number of its pairs. refusal is 0 if it was read; else
+ * it is the number of the refusal, and the other five are 0. */
 struct caldurrex_job {
-    uint32_t refusal, m, list_size, stop, frame;
+    uint32_t refusal, m, list_size, stop, frame, pairs;
 };
 
 /*
@@ -188,13 +212,16 @@ struct caldurrex_job {
  * A record is these bytes one behind the other and nothing else. A number of several
  * bytes has its low byte first.
  *
- *   1 byte           which of the three fields below are present: bit 0 the list size,
- *                    bit 1 the stop position, bit 2 the frame number; bits 3 to 7 are 0
+ *   1 byte           which of the four fields below are present: bit 0 the list size,
+ *                    bit 1 the stop position, bit 2 the frame number, bit 3 the pairs;
+ *                    bits 4 to 7 are 0
  *   1 byte           m, 2 to 10
  *   1 byte           list size, 1 to 32; only if bit 0 is 1, else the list size is 4
  *   2 bytes          stop position, 0 to n; only if bit 1 is 1, else it is n
  *   4 bytes          frame number, unsigned; only if bit 2 is 1, else it is 0
  *   ceil(n/8) bytes  the frozen map; for n = 4 its four high bits are 0
+ *   2 bytes          number of pairs, 0 to 256; only if bit 3 is 1, else it is 0
+ *   4 bytes a pair   f, then e
  *   2*n bytes        n soft values from -2048 to 2047, each a signed number of 16 bits
  *
  * A field may be present with the value that it would have when absent.
@@ -204,29 +231,37 @@ struct caldurrex_job {
  *           behind it up to map_len becomes 0
  *   soft    at least n numbers of 16 bits; the first n become the soft values, -2047
  *           for -2048, and all behind them up to soft_len becomes 0
+ *   pairs   at least four bytes a pair; the first of them become the pairs, and all
+ *           behind them up to pairs_len becomes 0
  *
- * The decoder takes the map and the soft values at their exact lengths, ceil(n/8)
- * and n. 128 bytes and 1024 numbers are enough for every record. What a record that
- * was read says is accepted by caldurrex_decode wherever it is lent enough.
+ * The calls on a code take the map, the soft values and the pairs at their exact
+ * lengths, ceil(n/8), n and four times the number of pairs. 128 bytes, 1024 numbers
+ * and 1024 bytes are enough for every record. What a record that was read says is
+ * accepted by caldurrex_decode wherever it is lent enough.
  *
  * The answer's refusal is 0, or the first of these that applies, in this order:
  *
  *   13  CALDURREX_BAD_RECORD_LENGTH  record_len is 0
- *   14  CALDURREX_BAD_FIELD_MAP      one of bits 3 to 7 of the first byte is 1
+ *   14  CALDURREX_BAD_FIELD_MAP      one of bits 4 to 7 of the first byte is 1
  *   13  CALDURREX_BAD_RECORD_LENGTH  record_len is 1
  *   1   CALDURREX_BAD_M              m outside 2..10
+ *   13  CALDURREX_BAD_RECORD_LENGTH  the record ends before or inside the number of pairs
+ *   15  CALDURREX_BAD_PAIRS          the number of pairs is above 256
  *   13  CALDURREX_BAD_RECORD_LENGTH  record_len is not exactly what the fields need
  *   3   CALDURREX_BAD_MAP_BIT        a map bit past n is set
+ *   15  CALDURREX_BAD_PAIRS          as for caldurrex_encode
  *   4   CALDURREX_BAD_LIST_SIZE      list size outside 1..32
  *   5   CALDURREX_BAD_STOP           stop position above n
  *   7   CALDURREX_BAD_SOFT_VALUE     a soft value outside -2048..2047
- *   10  CALDURREX_SHORT_OUTPUT       map_len is below ceil(n/8) or soft_len below n
+ *   10  CALDURREX_SHORT_OUTPUT       map_len is below ceil(n/8), soft_len below n, or
+ *                                    pairs_len below four times the number of pairs
  *
  * A refused call writes nowhere.
  */
 struct caldurrex_job caldurrex_read_job(const uint8_t *record, size_t record_len,
                                         uint8_t *map, size_t map_len,
-                                        int16_t *soft, size_t soft_len);
+                                        int16_t *soft, size_t soft_len,
+                                        uint8_t *pairs, size_t pairs_len);
 
 #ifdef __cplusplus
 }

@@ -1,7 +1,8 @@
 /*
  * Checks the decoder that the library is compared with: its scores against plain
  * enumeration of all completions, its lists and ceilings against lists kept by such
- * scores, and its ceilings against every word of the code.
+ * scores, and its ceilings against every word of the code. Checks, too, that the encoder
+ * and the extractor that the library is compared with know the same words.
  *
  *   check_paper_decoder [seed]
  */
@@ -16,7 +17,7 @@
 
 enum { MAX_N = REFERENCE_MAX_N, ALL_OF_16 = 1 << 16 };
 
-static unsigned long seed = 1, scores_checked, lists_checked;
+static unsigned long seed = 1, scores_checked, lists_checked, words_checked;
 
 static void need(int ok, const char *what, size_t n, size_t len)
 {
@@ -108,17 +109,19 @@ static void check_next_bit(size_t n)
     }
 }
 
-/* ---- ceilings */
+/* ---- ceilings and sums */
 
-/* What must be met, or equal ceilings would show little: one above the first score; one
- * equal to it where lower scores were dropped, and this at stop n; one above it that no
- * score dropped at the last clear position reaches; one above it that the lowest scores
- * dropped at each position do not reach. */
-enum { ABOVE, EQUAL, BEST_WORD, EARLIER, BESIDE_LOWER, EVENTS };
+/* What must be met, or equal lists and ceilings would show little: a ceiling above the first
+ * score; one equal to it where lower scores were dropped, and this at stop n; one above it
+ * that no score dropped at the last clear position reaches; one above it that the lowest
+ * scores dropped at each position do not reach; a row with a 1 at a frozen position, and
+ * there a 0 in another row; words outside the code. */
+enum { ABOVE, EQUAL, BEST_WORD, EARLIER, BESIDE_LOWER, SUM_OF_1, SUMS_DIFFER, OUTSIDE, EVENTS };
 
-static const char *const event_name[EVENTS] = {"above the first score", "equal to it with lower ones dropped",
+static const char *const event_name[EVENTS] = {"ceilings above the first score", "equal to it with lower ones dropped",
                                                "so at stop n", "from before the last clear position",
-                                               "with lower ones dropped beside it"};
+                                               "with lower ones dropped beside it", "rows with a sum of 1",
+                                               "rows with different sums", "words outside the code"};
 static unsigned long events[EVENTS];
 
 /* The highest score dropped from position first on, below stop; INT32_MIN if none was. */
@@ -131,11 +134,11 @@ static int32_t highest_dropped(const struct step *steps, size_t first, size_t st
     return most;
 }
 
-static void count_events(const struct step *steps, const uint8_t *map, size_t n, size_t stop)
+static void count_ceiling(const struct step *steps, const struct enumerated_code *code, size_t stop)
 {
     int32_t score = steps[stop].child[0].score, dropped = highest_dropped(steps, 0, stop), lowest = INT32_MIN;
     size_t last = stop; /* one past the last clear position */
-    while (last > 0 && reference_frozen(map, last - 1))
+    while (last > 0 && code->frozen[last - 1])
         last--;
     for (size_t p = 1; p <= stop; p++)
         if (steps[p].count > steps[p].live)
@@ -143,33 +146,64 @@ static void count_events(const struct step *steps, const uint8_t *map, size_t n,
     int above = dropped > score, equal = dropped != INT32_MIN && dropped < score;
     events[ABOVE] += (unsigned long)above;
     events[EQUAL] += (unsigned long)equal;
-    events[BEST_WORD] += equal && stop == n;
+    events[BEST_WORD] += equal && stop == code->n;
     events[EARLIER] += above && highest_dropped(steps, last - 1, stop) < dropped;
     events[BESIDE_LOWER] += above && lowest < dropped;
 }
 
+/* The bits of the live rows at the last position, where it is frozen. */
+static void count_sums(const struct step *steps, const struct enumerated_code *code, size_t stop)
+{
+    size_t met[2] = {0, 0};
+    for (size_t r = 0; stop > 0 && code->frozen[stop - 1] && r < steps[stop].live; r++)
+        met[steps[stop].child[r].prefix % 2]++;
+    events[SUM_OF_1] += met[1] > 0;
+    events[SUMS_DIFFER] += met[0] > 0 && met[1] > 0;
+}
+
 /* ---- blocks, each decoded to every stop position */
 
+/* The code twice: as tables, and as the bytes of its map and its pairs. */
 struct block {
     uint32_t m;
     size_t n, l;
-    uint8_t map[ENUMERATED_MAX_N / 8];
+    struct enumerated_code code;
+    uint8_t map[ENUMERATED_MAX_N / 8], pairs[2 * ENUMERATED_MAX_N * ENUMERATED_MAX_N];
+    size_t pairs_len;
     int16_t soft[ENUMERATED_MAX_N], taken[ENUMERATED_MAX_N];
     int32_t best; /* of its code */
 };
 
+/* About `follow` of eight positions below a frozen one are its e. */
+static void draw_code(struct block *b)
+{
+    size_t share = draw_below(9), follow = draw_below(2) ? draw_below(9) : 0;
+    b->code.n = b->n;
+    for (size_t i = 0; i < b->n; i++) {
+        b->code.frozen[i] = draw_below(8) < share;
+        b->map[i / 8] |= (uint8_t)(b->code.frozen[i] << (i % 8));
+        for (size_t j = 0; b->code.frozen[i] && j < i; j++) {
+            if (draw_below(8) >= follow)
+                continue;
+            b->code.follows[i][j] = 1;
+            b->pairs[b->pairs_len] = (uint8_t)i;
+            b->pairs[b->pairs_len + 2] = (uint8_t)j;
+            b->pairs_len += 4;
+        }
+    }
+}
+
 static void draw_block(struct block *b, uint32_t m)
 {
-    size_t share = draw_below(9);
     *b = (struct block){.m = m, .n = (size_t)1 << m, .l = 1 + draw_below(draw_below(2) ? 4 : PAPER_MAX_LIST)};
     draw_soft(b->soft, b->n);
     for (size_t i = 0; i < b->n; i++) {
-        b->map[i / 8] |= (uint8_t)((draw_below(8) < share) << (i % 8));
         if (draw_below(8) == 0)
             b->soft[i] = -2048;
         b->taken[i] = held(b->soft[i]);
     }
-    b->best = enumerated_best(b->n, b->map, b->taken);
+    draw_code(b);
+    b->best = enumerated_best(&b->code, b->taken);
 }
 
 static void check_list(const struct block *b, const struct step *steps, size_t stop)
@@ -181,8 +215,8 @@ static void check_list(const struct block *b, const struct step *steps, size_t s
     int32_t scores[PAPER_MAX_LIST];
     size_t n = b->n, l = b->l;
     struct paper_decoded answer =
-        paper_decode(b->m, b->map, (n + 7) / 8, (uint32_t)l, (uint32_t)stop, b->soft, n, numbers, 32 * n * l, bytes,
-                     (4 * n + 256) * l, inputs, n * l, words, n * l, scores, l);
+        paper_decode(b->m, b->map, (n + 7) / 8, b->pairs, b->pairs_len, (uint32_t)l, (uint32_t)stop, b->soft, n,
+                     numbers, 32 * n * l, bytes, (4 * n + 256) * l, inputs, n * l, words, n * l, scores, l);
     need(answer.refusal == 0 && answer.rows == steps[stop].live, "the row count", n, stop);
     for (size_t r = 0; r < answer.rows; r++) {
         bits_of(steps[stop].child[r].prefix, stop, u);
@@ -199,24 +233,45 @@ static void check_list(const struct block *b, const struct step *steps, size_t s
     lists_checked++;
 }
 
+/* Any input: its word is refused with 12 if it is outside the code; else the payload that is
+ * extracted gives the word again. */
+static void check_word(const struct block *b)
+{
+    uint8_t u[ENUMERATED_MAX_N], word[ENUMERATED_MAX_N], payload[ENUMERATED_MAX_N], again[ENUMERATED_MAX_N];
+    size_t n = b->n, map_len = (n + 7) / 8, k = reference_clear(b->map, n);
+    draw_bits(u, n);
+    reference_transform(n, u, word);
+    uint32_t refusal = reference_extract(b->m, b->map, map_len, b->pairs, b->pairs_len, word, n, payload, n);
+    need(refusal == (enumerated_member(&b->code, u) ? 0 : 12), "the answer for a word", n, n);
+    events[OUTSIDE] += refusal != 0;
+    if (refusal != 0)
+        draw_bits(payload, k);
+    need(reference_encode(b->m, b->map, map_len, b->pairs, b->pairs_len, payload, k, again, n) == 0, "no word", n, n);
+    need(refusal != 0 || memcmp(word, again, n) == 0, "the word of a payload", n, n);
+    refusal = reference_extract(b->m, b->map, map_len, b->pairs, b->pairs_len, again, n, u, n);
+    need(refusal == 0 && memcmp(u, payload, k) == 0, "the payload of a word", n, n);
+    words_checked++;
+}
+
 static void check_block(uint32_t m)
 {
     struct step steps[ENUMERATED_MAX_N + 1];
     struct block b;
     draw_block(&b, m);
-    enumerated_lists(b.n, b.map, b.l, b.taken, steps);
+    enumerated_lists(&b.code, b.l, b.taken, steps);
     for (size_t stop = 0; stop <= b.n; stop++) {
         check_list(&b, steps, stop);
-        count_events(steps, b.map, b.n, stop);
+        count_ceiling(steps, &b.code, stop);
+        count_sums(steps, &b.code, stop);
+        check_word(&b);
     }
 }
 
 static int report(void)
 {
     int reached = 1;
-    printf("ceilings");
     for (size_t event = 0; event < EVENTS; event++) {
-        printf("%s %s %lu", event == 0 ? "" : ",", event_name[event], events[event]);
+        printf("%s%s %lu", event == 0 ? "" : ", ", event_name[event], events[event]);
         reached &= events[event] > 0;
     }
     printf("\n");
@@ -245,9 +300,10 @@ int main(int argc, char **argv)
     for (int round = 0; round < 10; round++)
         check_block(4);
     if (!report()) {
-        printf("check_paper_decoder: FAILED: some kind of ceiling was never met (seed %lu)\n", seed);
+        printf("check_paper_decoder: FAILED: not all was met (seed %lu)\n", seed);
         return 1;
     }
-    printf("check_paper_decoder: %lu scores and %lu lists agree (seed %lu)\n", scores_checked, lists_checked, seed);
+    printf("check_paper_decoder: %lu scores, %lu lists and %lu words agree (seed %lu)\n", scores_checked, lists_checked,
+           words_checked, seed);
     return 0;
 }

@@ -5,9 +5,9 @@
 
 #include <stdlib.h>
 
-const uint32_t call_order[CALL_KINDS][8] = {
-    [ENCODE] = {1, 2, 3, 6, 11, 10},
-    [EXTRACT] = {1, 2, 3, 6, 11, 12, 10},
+const uint32_t call_order[CALL_KINDS][9] = {
+    [ENCODE] = {1, 2, 3, 15, 6, 11, 10},
+    [EXTRACT] = {1, 2, 3, 15, 6, 11, 12, 10},
 };
 
 static size_t size_of(const struct call *c)
@@ -39,6 +39,12 @@ void call_freeze(struct call *c, uint32_t m, enum frozen frozen)
         set_frozen(c, i, 1);
         set_frozen(c, (i + 1 + draw_below(n - 1)) % n, 0);
     }
+    call_pair(c, PAIRS_NONE);
+}
+
+void call_pair(struct call *c, enum pair_kind kind)
+{
+    pairs_draw(&c->pairs, c->map, size_of(c), kind);
 }
 
 size_t call_need(const struct call *c)
@@ -54,10 +60,9 @@ void call_fill(struct call *c, enum call_kind kind)
     draw_bytes(c->in, CALL_ROOM);
     for (size_t i = 0; i < CALL_ROOM; i++)
         c->in[i] &= 1;
-    if (kind == EXTRACT) {
+    if (kind == EXTRACT) { /* the bits drawn are the payload of the word */
         uint8_t u[REFERENCE_MAX_N];
-        for (size_t i = 0; i < n; i++)
-            u[i] = (uint8_t)(reference_frozen(c->map, i) ? 0 : draw_below(2));
+        reference_input(n, c->map, c->pairs.bytes, c->pairs.len, c->in, u);
         reference_transform(n, u, c->in);
     }
     size_t beyond[4] = {0, 1, draw_below(16), draw_below(2 * n)};
@@ -68,6 +73,7 @@ void call_fill(struct call *c, enum call_kind kind)
 void call_good(struct call *c, enum call_kind kind, uint32_t m, enum frozen frozen)
 {
     call_freeze(c, m, frozen);
+    call_pair(c, pairs_any_kind());
     call_fill(c, kind);
 }
 
@@ -129,17 +135,29 @@ void call_flip_input(struct call *c, size_t i)
     add_input(c, unit);
 }
 
-/* Sets one frozen bit of the input, or about half of them. */
+int call_is_bound(const struct call *c, size_t i)
+{
+    int bound = reference_frozen(c->map, i);
+    for (size_t j = 0; j < pairs_count(&c->pairs); j++)
+        bound |= reference_pair_at(c->pairs.bytes, j).e == i;
+    return bound;
+}
+
+/* Changes one bit of the input that a rule binds, or about half of the frozen ones: the
+ * first of these no longer is what the bits before it give. */
 static int leave_code(struct call *c)
 {
     uint8_t u[REFERENCE_MAX_N] = {0};
     size_t n = size_of(c), first = draw_below(n), most = draw_below(2) ? 1 : n, set = 0;
     for (size_t i = 0; i < n; i++) {
         size_t at = (first + i) % n;
-        if (reference_frozen(c->map, at) && (set == 0 || (set < most && draw_below(2)))) {
+        int binds = most == 1 ? call_is_bound(c, at) : reference_frozen(c->map, at);
+        if (binds && (set == 0 || (set < most && draw_below(2)))) {
             u[at] = 1;
             set++;
         }
+        if (set == most)
+            break;
     }
     add_input(c, u);
     return set > 0;
@@ -175,6 +193,9 @@ static int spoil(struct call *c, uint32_t refusal)
         return set_byte_above_1(c);
     case 12:
         return leave_code(c);
+    case 15:
+        pairs_break_somehow(&c->pairs, c->map, size_of(c), PART_OF_A_PAIR);
+        return 1;
     default:
         abort();
     }
@@ -182,9 +203,9 @@ static int spoil(struct call *c, uint32_t refusal)
 
 void call_spoil(struct call *c, unsigned faults)
 {
-    /* From the last refusal to the first: what a fault is measured by (m, then
-     * the map, then the input's length) is spoiled only after it, and the answer
-     * set last is the first one in the order. */
+    /* From the last refusal to the first: what a fault is measured by (m, then the
+     * map, then the pairs, then the input's length) is spoiled only after it, and the
+     * answer set last is the first one in the order. */
     const uint32_t *order = call_order[c->kind];
     size_t j = 0;
     while (order[j] != 0)

@@ -5,6 +5,8 @@
 #ifndef CODEC_CALLS_H
 #define CODEC_CALLS_H
 
+#include "pairs.h"
+
 #include <stddef.h>
 #include <stdint.h>
 
@@ -19,6 +21,7 @@ struct call {
     uint32_t m;
     uint8_t map[CALL_ROOM]; /* filled to its end, so that any length is a slice */
     size_t map_len;
+    struct pairs pairs;
     uint8_t in[CALL_ROOM]; /* payload of an encode, word of an extract; bits to its end */
     size_t in_len;
     size_t out_len;
@@ -26,16 +29,20 @@ struct call {
 };
 
 /* The refusals of a call, first one first, as the rules have them; 0 ends the row. */
-extern const uint32_t call_order[CALL_KINDS][8];
+extern const uint32_t call_order[CALL_KINDS][9];
 
-/* A frozen map for n = 2^m. FROZEN_SOME leaves at least one position of each kind. */
+/* A frozen map for n = 2^m, and no pairs. FROZEN_SOME leaves at least one position of
+ * each kind. */
 void call_freeze(struct call *c, uint32_t m, enum frozen frozen);
 
-/* Makes a call that is served out of c's m and map. The output has the length
+/* Pairs for c's m and map. */
+void call_pair(struct call *c, enum pair_kind kind);
+
+/* Makes a call that is served out of c's m, map and pairs. The output has the length
  * needed or is longer. */
 void call_fill(struct call *c, enum call_kind kind);
 
-/* Both. */
+/* All three, with pairs of any kind. */
 void call_good(struct call *c, enum call_kind kind, uint32_t m, enum frozen frozen);
 
 /* The bytes that the output of a served call with this m and map needs. */
@@ -43,6 +50,10 @@ size_t call_need(const struct call *c);
 
 /* Adds to the word of an extract what input bit i contributes. */
 void call_flip_input(struct call *c, size_t i);
+
+/* 1 if a word of the code with this input bit changed is none: it is frozen, or the e of
+ * a pair. */
+int call_is_bound(const struct call *c, size_t i);
 
 /* Makes a good call faulty: bit j of faults asks for refusal call_order[kind][j].
  * One that this code cannot have (no position to be spoiled) is left out. The

@@ -18,6 +18,9 @@ void check_open(unsigned long seed);
  * the m that the sizes were made for: the m passed may be another. */
 void check_call(const struct call *c, uint32_t sizes_of);
 
+/* The same, for a call that must have this answer. */
+void check_as(struct call *c, uint32_t sizes_of, uint32_t answer);
+
 /* The output slice of the last call. */
 const uint8_t *check_output(void);
 
@@ -27,7 +30,8 @@ void check_fail(const struct call *c, const char *what);
 unsigned long check_count(void);
 
 /* Prints how often each answer came. Gives 0 if, at some m, a refusal that it can
- * have never came, or no call was accepted. */
+ * have never came, or no call was accepted without pairs, with some, with 256 (or all that
+ * a map allows, where n is too small for that), or with a 1 at a frozen position. */
 int check_report(void);
 
 #endif

@@ -8,6 +8,7 @@
  */
 #include "codec_calls.h"
 #include "codec_check.h"
+#include "codec_pairs.h"
 #include "draw.h"
 #include "reference_codec.h"
 
@@ -25,27 +26,45 @@ static const struct example {
     const char *in, *out; /* a digit for each byte */
     size_t out_len;
     uint32_t answer;
+    const char *pairs; /* four digits a pair */
 } examples[] = {
-    {ENCODE, 2, "\x00", 1, "1000", "1000", 4, 0},
-    {ENCODE, 2, "\x00", 1, "0100", "1100", 4, 0},
-    {ENCODE, 2, "\x00", 1, "0010", "0110", 4, 0},
-    {ENCODE, 2, "\x00", 1, "0001", "1111", 4, 0},
-    {ENCODE, 3, "\x00", 1, "00000010", "10010110", 8, 0},
-    {ENCODE, 3, "\x00", 1, "00000001", "11111111", 8, 0},
-    {ENCODE, 2, "\x03", 1, "11", "1001", 4, 0},
-    {EXTRACT, 2, "\x03", 1, "1001", "11", 2, 0},
-    {ENCODE, 2, "\x03", 1, "11", "10010000", 8, 0},
-    {EXTRACT, 2, "\x03", 1, "1001", "110000", 6, 0},
-    {ENCODE, 4, "\xff\xff", 2, "", "0000000000000000", 16, 0},
-    {EXTRACT, 4, "\xff\xff", 2, "0000000000000000", "", 0, 0},
-    {ENCODE, 1, "\x00", 1, "00", "", 4, 1},
-    {ENCODE, 11, "", 0, "", "", 0, 1},
-    {ENCODE, 4, "\xff", 1, "", "", 16, 2},
-    {ENCODE, 2, "\x10", 1, "0000", "", 4, 3},
-    {ENCODE, 2, "\x03", 1, "000", "", 4, 6},
-    {ENCODE, 2, "\x03", 1, "00", "", 3, 10},
-    {ENCODE, 2, "\x03", 1, "20", "", 4, 11},
-    {EXTRACT, 2, "\x03", 1, "1000", "", 2, 12},
+    {ENCODE, 2, "\x00", 1, "1000", "1000", 4, 0, ""},
+    {ENCODE, 2, "\x00", 1, "0100", "1100", 4, 0, ""},
+    {ENCODE, 2, "\x00", 1, "0010", "0110", 4, 0, ""},
+    {ENCODE, 2, "\x00", 1, "0001", "1111", 4, 0, ""},
+    {ENCODE, 3, "\x00", 1, "00000010", "10010110", 8, 0, ""},
+    {ENCODE, 3, "\x00", 1, "00000001", "11111111", 8, 0, ""},
+    {ENCODE, 2, "\x03", 1, "11", "1001", 4, 0, ""},
+    {EXTRACT, 2, "\x03", 1, "1001", "11", 2, 0, ""},
+    {ENCODE, 2, "\x03", 1, "11", "10010000", 8, 0, ""},
+    {EXTRACT, 2, "\x03", 1, "1001", "110000", 6, 0, ""},
+    {ENCODE, 4, "\xff\xff", 2, "", "0000000000000000", 16, 0, ""},
+    {EXTRACT, 4, "\xff\xff", 2, "0000000000000000", "", 0, 0, ""},
+    {ENCODE, 1, "\x00", 1, "00", "", 4, 1, ""},
+    {ENCODE, 11, "", 0, "", "", 0, 1, ""},
+    {ENCODE, 4, "\xff", 1, "", "", 16, 2, ""},
+    {ENCODE, 2, "\x10", 1, "0000", "", 4, 3, ""},
+    {ENCODE, 2, "\x03", 1, "000", "", 4, 6, ""},
+    {ENCODE, 2, "\x03", 1, "00", "", 3, 10, ""},
+    {ENCODE, 2, "\x03", 1, "20", "", 4, 11, ""},
+    {EXTRACT, 2, "\x03", 1, "1000", "", 2, 12, ""},
+    /* Frozen 0, 2 and 3. The bit at 2 is that at 1, the bit at 3 the sum of both. */
+    {ENCODE, 2, "\x0d", 1, "0", "0000", 4, 0, "201030103020"},
+    {ENCODE, 2, "\x0d", 1, "1", "1010", 4, 0, "201030103020"},
+    {EXTRACT, 2, "\x0d", 1, "1010", "1", 1, 0, "201030103020"},
+    {EXTRACT, 2, "\x0d", 1, "0000", "0", 1, 0, "201030103020"},
+    {EXTRACT, 2, "\x0d", 1, "1000", "", 1, 12, "201030103020"},
+    {EXTRACT, 2, "\x0d", 1, "1100", "", 1, 12, "201030103020"},
+    {ENCODE, 2, "\x0d", 1, "1", "0011", 4, 0, "3010"},
+    {ENCODE, 2, "\x0d", 1, "1", "1100", 4, 0, "3020"},
+    {ENCODE, 2, "\x0d", 1, "1", "", 4, 15, "1000"},
+    {ENCODE, 2, "\x0d", 1, "1", "", 4, 15, "4000"},
+    {ENCODE, 2, "\x0d", 1, "1", "", 4, 15, "2020"},
+    {ENCODE, 2, "\x0d", 1, "1", "", 4, 15, "20102010"},
+    {ENCODE, 2, "\x0d", 1, "1", "", 4, 15, "30002010"},
+    {ENCODE, 2, "\x0d", 1, "1", "", 4, 15, "201"},
+    {ENCODE, 2, "\x1d", 1, "", "", 4, 3, "2"},
+    {ENCODE, 2, "\x0d", 1, "", "", 4, 15, "2"},
 };
 
 static void run_examples(void)
@@ -53,8 +72,10 @@ static void run_examples(void)
     for (size_t i = 0; i < sizeof examples / sizeof examples[0]; i++) {
         const struct example *e = &examples[i];
         struct call c = {.kind = e->kind, .m = e->m, .map_len = e->map_len, .in_len = strlen(e->in),
-                         .out_len = e->out_len, .answer = e->answer};
+                         .out_len = e->out_len, .answer = e->answer, .pairs.len = strlen(e->pairs)};
         memcpy(c.map, e->map, e->map_len);
+        for (size_t j = 0; j < c.pairs.len; j++)
+            c.pairs.bytes[j] = (uint8_t)(e->pairs[j] - '0');
         for (size_t j = 0; j < c.in_len; j++)
             c.in[j] = (uint8_t)(e->in[j] - '0');
         check_call(&c, e->m < MIN_M ? MIN_M : e->m > MAX_M ? MAX_M : e->m);
@@ -66,25 +87,19 @@ static void run_examples(void)
 
 /* ---- both sides of every limit */
 
-static void run_as(struct call *c, uint32_t sizes_of, uint32_t answer)
-{
-    c->answer = answer;
-    check_call(c, sizes_of);
-}
-
 static void try_lengths(enum call_kind kind, uint32_t m)
 {
     struct call c;
     for (size_t less = 0; less <= 2; less++) { /* one more, right, one less */
         call_good(&c, kind, m, FROZEN_SOME);
         c.map_len = c.map_len + 1 - less;
-        run_as(&c, m, less == 1 ? 0 : 2);
+        check_as(&c, m, less == 1 ? 0 : 2);
         call_good(&c, kind, m, FROZEN_SOME);
         c.in_len = c.in_len + 1 - less;
-        run_as(&c, m, less == 1 ? 0 : 6);
+        check_as(&c, m, less == 1 ? 0 : 6);
         call_good(&c, kind, m, FROZEN_SOME);
         c.out_len = call_need(&c) + 1 - less;
-        run_as(&c, m, less == 2 ? 10 : 0);
+        check_as(&c, m, less == 2 ? 10 : 0);
     }
 }
 
@@ -96,7 +111,7 @@ static void try_bytes(enum call_kind kind, uint32_t m)
         for (unsigned value = 0; value <= 3; value++) {
             call_good(&c, kind, m, FROZEN_NONE);
             c.in[i] = (uint8_t)(value < 3 ? value : 3 + draw_below(253));
-            run_as(&c, m, value < 2 ? 0 : 11);
+            check_as(&c, m, value < 2 ? 0 : 11);
         }
     }
 }
@@ -107,9 +122,10 @@ static void try_maps_of_4(enum call_kind kind)
         struct call c;
         call_freeze(&c, 2, FROZEN_NONE);
         c.map[0] = bits % 16;
+        call_pair(&c, pairs_any_kind());
         call_fill(&c, kind);
         c.map[0] = (uint8_t)bits;
-        run_as(&c, 2, bits < 16 ? 0 : 3);
+        check_as(&c, 2, bits < 16 ? 0 : 3);
     }
 }
 
@@ -123,18 +139,23 @@ static void try_all_words(enum call_kind kind, uint32_t m)
         call_good(&c, kind, m, FROZEN_NONE);
         for (size_t i = 0; i < n; i++)
             c.in[i] = (uint8_t)(bits >> i & 1);
-        run_as(&c, m, 0);
+        check_as(&c, m, 0);
     }
 }
 
+/* Words of a code without and of one with pairs, each input bit changed in turn. */
 static void try_words(uint32_t m)
 {
     struct call good, c;
-    call_good(&good, EXTRACT, m, FROZEN_SOME);
-    for (size_t i = 0; i < (size_t)1 << m; i++) {
-        c = good;
-        call_flip_input(&c, i);
-        run_as(&c, m, reference_frozen(c.map, i) ? 12 : 0);
+    for (int with = 0; with < 2; with++) {
+        call_freeze(&good, m, FROZEN_SOME);
+        call_pair(&good, with ? PAIRS_MANY : PAIRS_NONE);
+        call_fill(&good, EXTRACT);
+        for (size_t i = 0; i < (size_t)1 << m; i++) {
+            c = good;
+            call_flip_input(&c, i);
+            check_as(&c, m, call_is_bound(&c, i) ? 12 : 0);
+        }
     }
 }
 
@@ -144,7 +165,7 @@ static void try_limits(enum call_kind kind, uint32_t m)
         struct call c;
         call_good(&c, kind, m, FROZEN_SOME);
         c.m = call_bad_m(m, which);
-        run_as(&c, m, 1);
+        check_as(&c, m, 1);
     }
     try_lengths(kind, m);
     try_bytes(kind, m);
@@ -161,7 +182,7 @@ static void try_limits(enum call_kind kind, uint32_t m)
 /* Every set of faults, the empty one too. */
 static void try_faults(enum call_kind kind, uint32_t m, unsigned long rounds)
 {
-    unsigned sets = kind == ENCODE ? 1u << 6 : 1u << 7;
+    unsigned sets = kind == ENCODE ? 1u << 7 : 1u << 8;
     for (unsigned long round = 0; round < rounds; round++) {
         for (unsigned faults = 0; faults < sets; faults++) {
             struct call c;
@@ -202,12 +223,13 @@ int main(int argc, char **argv)
     for (uint32_t m = MIN_M; m <= MAX_M; m++) {
         for (int kind = 0; kind < CALL_KINDS; kind++) {
             try_limits((enum call_kind)kind, m);
-            try_faults((enum call_kind)kind, m, rounds);
+            try_pairs((enum call_kind)kind, m, rounds / 5);
+            try_faults((enum call_kind)kind, m, rounds / 2);
             try_round_trips((enum call_kind)kind, m, 25 * rounds);
         }
     }
     if (!check_report()) {
-        printf("compare_codec: FAILED: a refusal or an accepted call was never reached (seed %lu)\n", seed);
+        printf("compare_codec: FAILED: some refusal, accepted call or kind of pairs never came (seed %lu)\n", seed);
         return 1;
     }
     printf("compare_codec: %lu calls agree (seed %lu)\n", check_count(), seed);

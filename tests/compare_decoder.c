@@ -10,6 +10,7 @@
 #include "decoder_calls.h"
 #include "decoder_check.h"
 #include "decoder_examples.h"
+#include "decoder_pairs.h"
 #include "decoder_tally.h"
 #include "draw.h"
 
@@ -20,51 +21,36 @@ enum { USUAL_ROUNDS = 80 };
 
 /* ---- both sides of every limit */
 
-/* A good call that the paper decoder, too, serves soon: few positions are clear. */
-static void quick_call(struct decoder_call *c, uint32_t m)
-{
-    static const uint32_t list_sizes[6] = {1, 2, 3, 16, 31, 32};
-    uint32_t l = list_sizes[draw_below(m < 9 ? 6 : 3)];
-    uint32_t stop = (uint32_t)draw_below((1u << m) + 1);
-    decoder_call_good(c, m, CODE_FEW_CLEAR, (enum soft_kind)draw_below(SOFT_KINDS), l, stop);
-}
-
-static void check_as(struct decoder_call *c, uint32_t sizes_of, uint32_t refusal)
-{
-    c->refusal = refusal;
-    decoder_check(c, sizes_of);
-}
-
 static void try_numbers(uint32_t m)
 {
     struct decoder_call c;
     uint32_t n = (uint32_t)1 << m;
     for (size_t which = 0; which < CALL_BAD_MS; which++) {
-        quick_call(&c, m);
+        decoder_call_quick(&c, m);
         c.m = call_bad_m(m, which);
-        check_as(&c, m, 1);
+        decoder_check_as(&c, m, 1);
     }
     for (size_t which = 0; which < BAD_LIST_SIZES; which++) {
-        quick_call(&c, m);
+        decoder_call_quick(&c, m);
         c.list_size = decoder_bad_list_size(&c, which);
-        check_as(&c, m, 4);
+        decoder_check_as(&c, m, 4);
     }
     for (uint32_t l = 1; l <= 32; l += 31) {
         decoder_call_good(&c, m, CODE_FEW_CLEAR, SOFT_TIES, l, n);
-        check_as(&c, m, 0);
+        decoder_check_as(&c, m, 0);
         decoder_call_good(&c, m, CODE_FEW_CLEAR, SOFT_CLEAN, l, n);
-        check_as(&c, m, 0);
+        decoder_check_as(&c, m, 0);
     }
     for (size_t which = 0; which < BAD_STOPS; which++) {
-        quick_call(&c, m);
+        decoder_call_quick(&c, m);
         c.stop = decoder_bad_stop(&c, which);
-        check_as(&c, m, 5);
+        decoder_check_as(&c, m, 5);
     }
     const uint32_t stops[6] = {0, 1, n / 2, n / 2 + 1, n - 1, n};
     for (size_t which = 0; which < 6; which++) {
-        quick_call(&c, m);
+        decoder_call_quick(&c, m);
         c.stop = stops[which];
-        check_as(&c, m, 0);
+        decoder_check_as(&c, m, 0);
     }
 }
 
@@ -72,24 +58,24 @@ static void try_lengths(uint32_t m)
 {
     struct decoder_call c;
     for (size_t less = 0; less <= 2; less++) { /* one more, right, one less */
-        quick_call(&c, m);
+        decoder_call_quick(&c, m);
         c.map_len = c.map_len + 1 - less;
-        check_as(&c, m, less == 1 ? 0 : 2);
-        quick_call(&c, m);
+        decoder_check_as(&c, m, less == 1 ? 0 : 2);
+        decoder_call_quick(&c, m);
         c.soft_len = c.soft_len + 1 - less;
-        check_as(&c, m, less == 1 ? 0 : 6);
+        decoder_check_as(&c, m, less == 1 ? 0 : 6);
     }
-    quick_call(&c, m);
+    decoder_call_quick(&c, m);
     decoder_call_trim(&c);
-    check_as(&c, m, 0);
+    decoder_check_as(&c, m, 0);
     for (size_t which = 0; which < 5; which++) {
         static const uint32_t refusals[5] = {8, 9, 10, 10, 10};
         for (size_t beyond = 0; beyond < 3; beyond++) { /* one less, all less, one more */
-            quick_call(&c, m);
+            decoder_call_quick(&c, m);
             decoder_call_trim(&c);
             size_t *lens[5] = {&c.numbers_len, &c.bytes_len, &c.inputs_len, &c.words_len, &c.scores_len};
             *lens[which] = beyond == 0 ? *lens[which] - 1 : beyond == 1 ? 0 : *lens[which] + 1;
-            check_as(&c, m, beyond == 2 ? 0 : refusals[which]);
+            decoder_check_as(&c, m, beyond == 2 ? 0 : refusals[which]);
         }
     }
 }
@@ -101,16 +87,16 @@ static void try_soft_values(uint32_t m)
     struct decoder_call c;
     size_t n = (size_t)1 << m;
     for (size_t i = 0; i < n; i++) {
-        quick_call(&c, m);
+        decoder_call_quick(&c, m);
         c.soft[i] = decoder_bad_soft(i % BAD_SOFTS);
-        check_as(&c, m, 7);
+        decoder_check_as(&c, m, 7);
         if (n > 32 && i != 0 && i != n - 1 && draw_below(n) >= 4)
             continue;
         for (size_t which = 0; which < 7; which++) {
             static const int16_t values[7] = {-2048, -2047, 2047, -2049, 2048, -32768, 32767};
-            quick_call(&c, m);
+            decoder_call_quick(&c, m);
             c.soft[i] = values[which];
-            check_as(&c, m, which < 3 ? 0 : 7);
+            decoder_check_as(&c, m, which < 3 ? 0 : 7);
         }
     }
 }
@@ -119,19 +105,21 @@ static void try_maps_of_4(void)
 {
     for (unsigned bits = 0; bits < 256; bits++) {
         struct decoder_call c;
-        quick_call(&c, 2);
+        decoder_call_quick(&c, 2);
+        c.map[0] = (uint8_t)(bits % 16);
+        decoder_call_pair(&c, pairs_any_kind(), SOFT_SMALL);
         c.map[0] = (uint8_t)bits;
-        check_as(&c, 2, bits < 16 ? 0 : 3);
+        decoder_check_as(&c, 2, bits < 16 ? 0 : 3);
     }
 }
 
-/* Every set of faults, or some of them in a short run. */
+/* Every set of faults; of long blocks, and in a short run, some of them. */
 static void try_faults(uint32_t m, unsigned long rounds)
 {
-    unsigned step = rounds < USUAL_ROUNDS ? 23 : 1;
-    for (unsigned faults = 0; faults < 1u << DECODER_REFUSALS; faults += step) {
+    unsigned step = rounds < USUAL_ROUNDS ? 45 : m > 6 ? 3 : 1;
+    for (unsigned faults = m % step; faults < 1u << DECODER_REFUSALS; faults += step) {
         struct decoder_call c;
-        quick_call(&c, m);
+        decoder_call_quick(&c, m);
         decoder_call_spoil(&c, faults);
         decoder_check(&c, m);
     }
@@ -173,16 +161,21 @@ static void try_middle_blocks(uint32_t m, unsigned long count)
 static const struct long_block {
     uint32_t m, list_size, stop;
     enum code_kind code;
+    enum pair_kind pairs;
     enum soft_kind soft;
 } long_blocks[] = {
-    {9, 1, 512, CODE_OPEN, SOFT_NOISY},    {9, 2, 512, CODE_MIXED, SOFT_TIES},   {9, 3, 511, CODE_POLAR, SOFT_WIDE},
-    {9, 32, 40, CODE_OPEN, SOFT_UNITS},    {9, 32, 24, CODE_OPEN, SOFT_ENDS},    {9, 32, 512, CODE_SHUT, SOFT_SMALL},
-    {9, 4, 512, CODE_POLAR, SOFT_NOISY},   {9, 8, 512, CODE_POLAR, SOFT_ENDS},   {9, 16, 300, CODE_POLAR, SOFT_TIES},
-    {9, 31, 200, CODE_POLAR, SOFT_NOISY},  {9, 32, 512, CODE_POLAR, SOFT_NOISY}, {9, 5, 100, CODE_BACK, SOFT_SMALL},
-    {10, 1, 1024, CODE_OPEN, SOFT_WIDE},   {10, 1, 1024, CODE_POLAR, SOFT_TIES}, {10, 2, 1024, CODE_POLAR, SOFT_NOISY},
-    {10, 32, 36, CODE_OPEN, SOFT_TIES},    {10, 32, 20, CODE_OPEN, SOFT_ENDS},   {10, 32, 1024, CODE_SHUT, SOFT_ENDS},
-    {10, 4, 1024, CODE_POLAR, SOFT_ENDS},  {10, 8, 600, CODE_POLAR, SOFT_TIES},  {10, 7, 60, CODE_BACK, SOFT_SMALL},
-    {10, 32, 400, CODE_POLAR, SOFT_NOISY}, {10, 24, 333, CODE_POLAR, SOFT_WIDE}, {10, 32, 1024, CODE_POLAR, SOFT_NOISY},
+    {9, 1, 512, CODE_OPEN, PAIRS_NONE, SOFT_NOISY},     {9, 2, 512, CODE_MIXED, PAIRS_FULL, SOFT_TIES},
+    {9, 3, 511, CODE_POLAR, PAIRS_STAR, SOFT_WIDE},     {9, 32, 40, CODE_OPEN, PAIRS_NONE, SOFT_UNITS},
+    {9, 32, 24, CODE_OPEN, PAIRS_NONE, SOFT_ENDS},      {9, 32, 512, CODE_SHUT, PAIRS_FULL, SOFT_SMALL},
+    {9, 4, 512, CODE_POLAR, PAIRS_MANY, SOFT_NOISY},    {9, 8, 512, CODE_POLAR, PAIRS_NONE, SOFT_ENDS},
+    {9, 16, 300, CODE_POLAR, PAIRS_CHAIN, SOFT_TIES},   {9, 31, 200, CODE_POLAR, PAIRS_NONE, SOFT_NOISY},
+    {9, 32, 512, CODE_POLAR, PAIRS_FULL, SOFT_NOISY},   {9, 5, 100, CODE_BACK, PAIRS_ENDS, SOFT_SMALL},
+    {10, 1, 1024, CODE_OPEN, PAIRS_NONE, SOFT_WIDE},    {10, 1, 1024, CODE_POLAR, PAIRS_FULL, SOFT_TIES},
+    {10, 2, 1024, CODE_POLAR, PAIRS_MANY, SOFT_NOISY},  {10, 32, 36, CODE_OPEN, PAIRS_NONE, SOFT_TIES},
+    {10, 32, 20, CODE_OPEN, PAIRS_NONE, SOFT_ENDS},     {10, 32, 1024, CODE_SHUT, PAIRS_MANY, SOFT_ENDS},
+    {10, 4, 1024, CODE_POLAR, PAIRS_NONE, SOFT_ENDS},   {10, 8, 600, CODE_POLAR, PAIRS_CHAIN, SOFT_TIES},
+    {10, 7, 60, CODE_BACK, PAIRS_FULL, SOFT_SMALL},     {10, 32, 400, CODE_POLAR, PAIRS_NONE, SOFT_NOISY},
+    {10, 24, 333, CODE_POLAR, PAIRS_MANY, SOFT_WIDE},   {10, 32, 1024, CODE_POLAR, PAIRS_FULL, SOFT_NOISY},
 };
 
 static void try_long_blocks(unsigned long rounds)
@@ -193,6 +186,7 @@ static void try_long_blocks(unsigned long rounds)
             continue;
         struct decoder_call c;
         decoder_call_good(&c, b->m, b->code, b->soft, b->list_size, b->stop);
+        decoder_call_pair(&c, b->pairs, b->soft);
         decoder_check(&c, b->m);
     }
 }
@@ -205,6 +199,7 @@ static void try_all(unsigned long rounds)
         try_numbers(m);
         try_lengths(m);
         try_soft_values(m);
+        try_decoder_pairs(m, rounds / 20);
         try_faults(m, rounds);
     }
     for (uint32_t m = 2; m <= 5; m++) {

@@ -14,6 +14,7 @@
 #include "decoder_check.h"
 #include "decoder_tally.h"
 #include "draw.h"
+#include "pairs.h"
 #include "reference_codec.h"
 
 #include <stdio.h>
@@ -27,13 +28,18 @@ enum { USUAL_ROUNDS = 20, PAPER_M = 5 };
  * a 1 behind it, and one that shares its score with the second; and a first row that is
  * another where the stop position is one less, at the last frozen position. Then a ceiling
  * above the first score past every frozen position, and at a stop position before it a
- * ceiling that falls up to n, and one above the first score already; and a better first
- * row of the longest list. */
-enum { NONE_FROZEN, BETWEEN, LAST_FROZEN, BITS_FOLLOW, TIES, ANOTHER_BEFORE, ABOVE, FALLS, STAYS, LONGER, EVENTS };
+ * ceiling that falls up to n, and one above the first score already; a better first row of
+ * the longest list; 256 pairs, or all that the map allows where n is too small for that; and
+ * for a stop position between, a first row with a 1 at a frozen position. */
+enum {
+    NONE_FROZEN, BETWEEN, LAST_FROZEN, BITS_FOLLOW, TIES, ANOTHER_BEFORE, ABOVE, FALLS, STAYS, LONGER, FULL_PAIRS,
+    SUM_OF_1, EVENTS
+};
 
 static const char *const event_name[EVENTS] = {"none frozen", "frozen up to a place", "last frozen", "bits follow",
                                                "ties", "another before", "ceiling above", "ceiling falls",
-                                               "ceiling stays above", "a longer list helps"};
+                                               "ceiling stays above", "a longer list helps", "full of pairs",
+                                               "a sum of 1"};
 
 static unsigned long events[DECODER_MAX_M + 1][EVENTS];
 
@@ -119,6 +125,7 @@ static void draw_block(struct decoder_call *c, uint32_t m, unsigned long i)
     decoder_call_good(c, m, (enum code_kind)(i % CODE_KINDS), (enum soft_kind)soft, list_size, 0);
     for (size_t at = cut; at < n; at++)
         c->map[at / 8] &= (uint8_t)~(1u << at % 8);
+    decoder_call_pair(c, (enum pair_kind)draw_below(PAIR_KINDS), (enum soft_kind)soft);
 }
 
 static void count(const struct decoder_call *c, const struct row *early, const struct row *last)
@@ -126,6 +133,11 @@ static void count(const struct decoder_call *c, const struct row *early, const s
     size_t n = (size_t)1 << c->m;
     int between = early->stop > 0 && early->stop < n;
     unsigned long *met = events[c->m];
+    int ones = 0;
+    for (size_t i = 0; i < n; i++)
+        ones |= reference_frozen(c->map, i) && last->input[i];
+    met[FULL_PAIRS] += (unsigned long)pairs_are_full(&c->pairs, c->map, n);
+    met[SUM_OF_1] += between && ones;
     met[NONE_FROZEN] += early->stop == 0;
     met[BETWEEN] += (unsigned long)between;
     met[LAST_FROZEN] += early->stop == n;

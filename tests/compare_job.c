@@ -8,6 +8,7 @@
 #include "draw.h"
 #include "job_calls.h"
 #include "job_check.h"
+#include "job_pairs.h"
 
 #include <stdio.h>
 #include <stdlib.h>
@@ -22,8 +23,22 @@ static const struct example {
 } examples[] = {
     {"", 0, 13},
     {"\x00", 1, 13},
-    {"\x08", 1, 14},
-    {"\x08\x01", 2, 14},
+    {"\x08", 1, 13},
+    {"\x10", 1, 14},
+    {"\x20", 1, 14},
+    {"\x20\x01", 2, 14},
+    {"\xf8\x02", 2, 14},
+    {"\x08\x01", 2, 1},
+    {"\x08\x02", 2, 13},
+    {"\x08\x02\x0d", 3, 13},
+    {"\x08\x02\x0d\xff", 4, 13},
+    {"\x08\x02\x0d\x01\x01", 5, 15},
+    {"\x08\x02\x0d\x00\x01", 5, 13},
+    {"\x08\x02\x0d\x01\x00\x02\x00\x01", 8, 13},
+    {"\x08\x02\x0d\x01\x00\x02\x00\x02\x00\0\0\0\0\0\0\0\0", 17, 15},
+    {"\x08\x02\x1d\x01\x00\x02\x00\x02\x00\0\0\0\0\0\0\0\0", 17, 3},
+    {"\x09\x02\x00\x0d\x01\x00\x02\x00\x02\x00\0\0\0\0\0\0\0\0", 18, 15},
+    {"\x09\x02\x00\x0d\x01\x00\x02\x00\x01\x00\0\0\0\0\0\0\0\0", 18, 4},
     {"\x00\x01", 2, 1},
     {"\x00\x02", 2, 13},
     {"\x00\x02\x10\0\0\0\0\0\0\0\0", 11, 3},
@@ -40,41 +55,34 @@ static void run_examples(void)
     struct job_record r = {.kind = JOB_GOOD, .fields = JOB_LIST_SIZE, .m = 2, .list_size = 2, .stop = 4,
                            .map = {3}, .soft = {5, -3, 2, 7}, .len = 12};
     memcpy(r.bytes, "\x01\x02\x02\x03\x05\x00\xfd\xff\x02\x00\x07\x00", 12);
-    job_check(&r, 1, 4);
-    job_check(&r, 3, 9);
+    job_check(&r, 1, 4, 0);
+    job_check(&r, 3, 9, 7);
     static const int16_t ends[4] = {-2048, 2047, -2047, 7};
     memcpy(r.soft, ends, sizeof ends);
     memcpy(r.bytes, "\x01\x02\x02\x03\x00\xf8\xff\x07\x01\xf8\x07\x00", 12);
-    job_check(&r, 1, 4);
+    job_check(&r, 1, 4, 0);
     for (size_t i = 0; i < sizeof examples / sizeof examples[0]; i++) {
         memcpy(r.bytes, examples[i].bytes, examples[i].len);
         r.len = examples[i].len;
         r.refusal = examples[i].refusal;
-        job_check(&r, 1, 4);
+        job_check(&r, 1, 4, 1024);
     }
 }
 
 /* ---- what is lent */
 
-/* The record's slices exactly long enough, longer, one too short and empty, each with
- * each, or as many pairs of these as asked for. */
-static void try_slices(const struct job_record *r, size_t pairs)
+/* Exactly long enough, longer, one too short or empty. */
+static size_t any_length(size_t need)
 {
-    size_t need_map = job_map_len(r->m), need_soft = (size_t)1 << r->m;
-    for (size_t pair = 0; pair < pairs; pair++) {
-        size_t maps[5] = {need_map, need_map + 1, need_map - 1, 0, need_map + draw_below(1000)};
-        size_t softs[5] = {need_soft, need_soft + 1, need_soft - 1, 0, need_soft + draw_below(1000)};
-        job_check(r, maps[pair % 5], softs[pair / 5]);
-    }
+    size_t lengths[5] = {need, need + 1, need > 0 ? need - 1 : 0, 0, need + draw_below(1000)};
+    return lengths[draw_below(5)];
 }
-enum { ALL_PAIRS = 25 };
 
-/* Slices that are long enough. */
-static void run_as(struct job_record *r, uint32_t refusal)
+/* The record with slices of so many sets of lengths. */
+static void try_slices(const struct job_record *r, size_t sets)
 {
-    size_t map_len = job_map_len(r->m) + draw_below(3), soft_len = ((size_t)1 << r->m) + draw_below(3);
-    r->refusal = refusal;
-    job_check(r, map_len, soft_len);
+    for (; sets > 0; sets--)
+        job_check(r, any_length(job_map_len(r->m)), any_length((size_t)1 << r->m), any_length(r->pairs.len));
 }
 
 /* ---- both sides of every limit */
@@ -85,11 +93,12 @@ static void try_first_bytes(uint32_t m)
     for (unsigned byte = 0; byte < 256; byte++) {
         job_good(&r, m, byte % JOB_FIELD_SETS, 0);
         r.bytes[0] = (uint8_t)byte;
-        run_as(&r, byte < JOB_FIELD_SETS ? 0 : 14);
+        job_check_as(&r, byte < JOB_FIELD_SETS ? 0 : 14);
+        /* With pairs, another m finds their number at another place. */
         job_good(&r, m, (unsigned)draw_below(JOB_FIELD_SETS), 0);
         r.bytes[1] = (uint8_t)byte;
         if (byte != m)
-            run_as(&r, byte < JOB_MIN_M || byte > JOB_MAX_M ? 1 : 13);
+            job_check_as(&r, byte < JOB_MIN_M || byte > JOB_MAX_M ? 1 : r.fields & JOB_PAIRS ? JOB_UNKNOWN : 13);
     }
 }
 
@@ -101,7 +110,7 @@ static void try_lengths(uint32_t m, unsigned fields)
     memset(r.bytes + right, 0, 64);
     for (r.len = 0; r.len < right + 64; r.len += r.len < 32 || r.len + 16 > right ? 1 : 1 + draw_below(64))
         if (r.len != right)
-            run_as(&r, 13);
+            job_check_as(&r, 13);
 }
 
 static void try_stop(uint32_t m, uint32_t p)
@@ -110,7 +119,7 @@ static void try_stop(uint32_t m, uint32_t p)
     job_good(&r, m, JOB_STOP | (unsigned)draw_below(JOB_FIELD_SETS), 0);
     r.stop = p;
     job_pack(&r);
-    run_as(&r, p > (uint32_t)1 << m ? 5 : 0);
+    job_check_as(&r, p > (uint32_t)1 << m ? 5 : 0);
 }
 
 /* Every list size; stop positions below 40, round n and, with gaps, up to the last one
@@ -123,7 +132,7 @@ static void try_fields(uint32_t m)
         job_good(&r, m, JOB_LIST_SIZE | (unsigned)draw_below(JOB_FIELD_SETS), 0);
         r.list_size = l;
         job_pack(&r);
-        run_as(&r, l < 1 || l > JOB_MAX_LIST ? 4 : 0);
+        job_check_as(&r, l < 1 || l > JOB_MAX_LIST ? 4 : 0);
     }
     for (uint32_t p = 0; p < 40; p++)
         try_stop(m, p);
@@ -143,7 +152,7 @@ static void try_soft_values(uint32_t m)
             job_good(&r, m, (unsigned)draw_below(JOB_FIELD_SETS), 0);
             r.soft[i] = values[which];
             job_pack(&r);
-            run_as(&r, values[which] < -2048 || values[which] > 2047 ? 7 : 0);
+            job_check_as(&r, values[which] < -2048 || values[which] > 2047 ? 7 : 0);
         }
     }
 }
@@ -153,9 +162,11 @@ static void try_maps_of_4(void)
     struct job_record r;
     for (unsigned bits = 0; bits < 256; bits++) {
         job_good(&r, 2, (unsigned)draw_below(JOB_FIELD_SETS), 0);
+        r.map[0] = bits % 16;
+        job_pair(&r, r.fields & JOB_PAIRS ? pairs_any_kind() : PAIRS_NONE);
         r.map[0] = (uint8_t)bits;
         job_pack(&r);
-        run_as(&r, bits < 16 ? 0 : 3);
+        job_check_as(&r, bits < 16 ? 0 : 3);
     }
 }
 
@@ -178,17 +189,19 @@ static void try_good(uint32_t m)
     struct job_record r;
     for (unsigned fields = 0; fields < JOB_FIELD_SETS; fields++) {
         for (unsigned plain = 0; plain < JOB_FIELD_SETS; plain++) {
+            if (plain & ~fields)
+                continue;
             job_good(&r, m, fields, plain);
-            try_slices(&r, ALL_PAIRS);
+            try_slices(&r, 20);
         }
     }
 }
 
-/* Every set of faults. */
-static void try_faults(uint32_t m)
+/* In five rounds every set of faults. */
+static void try_faults(uint32_t m, unsigned long round)
 {
     struct job_record r;
-    for (unsigned faults = 0; faults < FAULT_SETS; faults++) {
+    for (unsigned faults = round % 5; faults < FAULT_SETS; faults += 5) {
         job_good(&r, m, (unsigned)draw_below(JOB_FIELD_SETS), 0);
         r.kind = JOB_SEVERAL_FAULTS;
         job_spoil(&r, faults);
@@ -209,10 +222,12 @@ int main(int argc, char **argv)
     run_examples();
     for (uint32_t m = JOB_MIN_M; m <= JOB_MAX_M; m++)
         try_limits(m);
+    for (uint32_t m = JOB_MIN_M; m <= JOB_MAX_M; m++)
+        try_job_pairs(m, rounds);
     for (unsigned long round = 0; round < rounds; round++) {
         for (uint32_t m = JOB_MIN_M; m <= JOB_MAX_M; m++) {
             try_good(m);
-            try_faults(m);
+            try_faults(m, round);
         }
         for (unsigned kind = 0; kind < 16 * JOB_KINDS; kind++) {
             struct job_record r;
@@ -221,7 +236,7 @@ int main(int argc, char **argv)
         }
     }
     if (!job_check_report()) {
-        printf("compare_job: FAILED: a refusal or an accepted call was never reached (seed %lu)\n", seed);
+        printf("compare_job: FAILED: some refusal, accepted call or kind of pairs never came (seed %lu)\n", seed);
         return 1;
     }
     printf("compare_job: %lu calls agree (seed %lu)\n", job_check_count(), seed);

@@ -8,6 +8,7 @@
  */
 #include "draw.h"
 #include "job_calls.h"
+#include "reference_codec.h"
 #include "reference_job.h"
 #include "run_program.h"
 
@@ -15,12 +16,16 @@
 #include <stdlib.h>
 #include <string.h>
 
-enum { ANSWERS = 15, SERVED_M = 6, SERVED_LIST = 4 };
+enum { ANSWERS = 16, SERVED_M = 6, SERVED_LIST = 4 };
 
 static const char *program;
 static unsigned long seed, runs, kinds[JOB_KINDS], answers[ANSWERS]; /* answer 0: served */
 static unsigned long served_m[SERVED_M + 1], served_list[SERVED_LIST + 1], served_fields[JOB_FIELD_SETS];
 static unsigned long in_pieces;
+
+/* Served blocks with pairs, with 256 of them or all that the map allows, and with a row that
+ * has a 1 at a frozen position. */
+static unsigned long with_pairs[SERVED_M + 1], with_full[SERVED_M + 1], with_sums[SERVED_M + 1];
 
 /* What the ceilings of served blocks must be met as, once each at least: signs and 0 for
  * how the number is printed, and above the first score, where no row has it. */
@@ -83,6 +88,27 @@ static void count_ceiling(const char *want)
     ceilings[ABOVE] += ceiling > score;
 }
 
+/* Some input bits of an output are 1 at a frozen position. */
+static int has_sums(const struct job_record *r, const char *want)
+{
+    int ones = 0;
+    char input[PROGRAM_MAX_N + 1];
+    while ((want = strchr(want, '\n') + 1)[0] != 0 && sscanf(want, "%*u %*d %64s", input) == 1)
+        for (size_t i = 0; i < (size_t)1 << r->m; i++)
+            ones |= reference_frozen(r->map, i) && input[i] == '1';
+    return ones;
+}
+
+static void count_served(const struct job_record *r, const char *want)
+{
+    served_m[r->m]++;
+    served_list[r->list_size]++;
+    served_fields[r->fields]++;
+    with_pairs[r->m] += r->count > 0;
+    with_full[r->m] += (unsigned long)pairs_are_full(&r->pairs, r->map, (size_t)1 << r->m);
+    with_sums[r->m] += (unsigned long)has_sums(r, want);
+}
+
 static void check(const struct job_record *r)
 {
     char want[REFERENCE_OUTPUT_ROOM];
@@ -94,11 +120,8 @@ static void check(const struct job_record *r)
     kinds[r->kind]++;
     answers[answer]++;
     count_ceiling(want);
-    if (answer == 0 && r->refusal == 0) {
-        served_m[r->m]++;
-        served_list[r->list_size]++;
-        served_fields[r->fields]++;
-    }
+    if (answer == 0 && r->refusal == 0)
+        count_served(r, want);
 }
 
 /* ---- inputs whose outputs are written here */
@@ -142,17 +165,26 @@ static void run_examples(void)
              "frame 0 rows 1 ceiling -8188\n0 -8188 0000 0000\n");
     run_text("\x00\x02\x0f\xff\x07\xff\x07\xff\x07\xff\x07", 11,
              "frame 0 rows 1 ceiling 8188\n0 8188 0000 0000\n");
+    run_text("\x09\x02\x02\x0d\x03\x00\x02\x00\x01\x00\x03\x00\x01\x00\x03\x00\x02\x00"
+             "\x05\x00\xfd\xff\x02\x00\x07\x00", 26,
+             "frame 0 rows 2 ceiling 11\n0 11 0000 0000\n1 -3 0110 1010\n");
+    run_text("\x09\x02\x02\x03\x00\x00\x05\x00\xfd\xff\x02\x00\x07\x00", 14,
+             "frame 0 rows 2 ceiling 13\n0 13 0010 0110\n1 11 0000 0000\n");
+    run_text("\x08\x02\x0d\x01\x00\x02\x00\x02\x00\x05\x00\xfd\xff\x02\x00\x07\x00", 17, "refused 15\n");
+    run_text("\x08\x02\x0d\x01\x01", 5, "refused 15\n");
+    run_text("\x08\x02\x0d\x01", 4, "refused 13\n");
     run_text("\x00\x02\x0f\x00\x00\xff\xf7\x00\x00\x00\x00", 11, "refused 7\n");
     run_text("", 0, "refused 13\n");
     run_text("\x00", 1, "refused 13\n");
-    run_text("\x08", 1, "refused 14\n");
+    run_text("\x08", 1, "refused 13\n");
+    run_text("\x20", 1, "refused 14\n");
     static const size_t limit[2] = {PROGRAM_MAX_INPUT, PROGRAM_MAX_INPUT + 1};
     for (int past = 0; past < 2; past++) {
-        run_long(limit[past], 0x08, 2, past ? "refused 13\n" : "refused 14\n");
+        run_long(limit[past], 0x20, 2, past ? "refused 13\n" : "refused 14\n");
         run_long(limit[past], 0x00, 1, past ? "refused 13\n" : "refused 1\n");
         run_long(limit[past], 0x00, 2, "refused 13\n");
     }
-    run_long(JOB_ROOM, 0x08, 0, "refused 13\n");
+    run_long(JOB_ROOM, 0x20, 0, "refused 13\n");
 }
 
 /* ---- soft values on both sides of the limits, and the ends of 16 bits, in every size that is served */
@@ -173,7 +205,7 @@ static void run_soft_values(void)
     }
 }
 
-/* ---- every size on both sides of what the program serves, every set of faults */
+/* ---- every size on both sides of what the program serves, every kind of pairs, sets of faults */
 
 static void run_limits(void)
 {
@@ -190,7 +222,11 @@ static void run_limits(void)
         job_good(&r, m, JOB_FIELD_SETS - 1, JOB_FIELD_SETS - 1);
         check(&r);
     }
-    for (unsigned faults = 1; faults < FAULT_SETS; faults++) {
+    for (uint32_t i = 0; i < 4 * PAIR_KINDS * (SERVED_M - 1); i++) {
+        job_paired(&r, JOB_MIN_M + i % (SERVED_M - 1), i % 2 ? JOB_STOP : 0, (enum pair_kind)(i % PAIR_KINDS));
+        check(&r);
+    }
+    for (unsigned faults = 1; faults < FAULT_SETS; faults += 1 + (unsigned)draw_below(7)) {
         job_good(&r, JOB_MIN_M, (unsigned)draw_below(JOB_FIELD_SETS), 0);
         r.kind = JOB_SEVERAL_FAULTS;
         job_spoil(&r, faults);
@@ -213,7 +249,7 @@ static int reached_all(const char *name, const unsigned long *counts, size_t fir
 
 static int report(void)
 {
-    static const size_t possible[] = {1, 3, 4, 5, 7, 8, 13, 14};
+    static const size_t possible[] = {1, 3, 4, 5, 7, 8, 13, 14, 15};
     int reached = in_pieces > 0;
     for (int kind = 0; kind < JOB_KINDS; kind++) {
         printf("%6lu %s\n", kinds[kind], job_kind_name[kind]);
@@ -235,6 +271,9 @@ static int report(void)
     reached &= reached_all("served with m", served_m, 2, SERVED_M);
     reached &= reached_all("served with list size", served_list, 1, SERVED_LIST);
     reached &= reached_all("served with fields", served_fields, 0, JOB_FIELD_SETS - 1);
+    reached &= reached_all("served with pairs, m", with_pairs, 2, SERVED_M);
+    reached &= reached_all("256 of them or all that can be, m", with_full, 2, SERVED_M);
+    reached &= reached_all("with a 1 at a frozen position, m", with_sums, 2, SERVED_M);
     return reached;
 }
 
@@ -267,8 +306,8 @@ int main(int argc, char **argv)
     run_limits();
     run_records(records);
     if (!report()) {
-        printf("compare_program: FAILED: some record, answer or ceiling never came, or too few were served (seed %lu)\n",
-               seed);
+        printf("compare_program: FAILED: some record, answer, ceiling or kind of pairs never came, or too few were "
+               "served (seed %lu)\n", seed);
         return 1;
     }
     printf("compare_program: %lu runs agree, %lu of them with the input in two pieces (seed %lu)\n", runs, in_pieces,

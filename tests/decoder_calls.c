@@ -7,6 +7,8 @@
 #include <stdlib.h>
 #include <string.h>
 
+const uint32_t decoder_order[DECODER_REFUSALS] = {1, 2, 3, 15, 4, 5, 6, 7, 8, 9, 10};
+
 static size_t size_of(const struct decoder_call *c)
 {
     return (size_t)1 << c->m;
@@ -65,10 +67,11 @@ static int16_t draw_soft(int most)
 /* A word of the code at magnitude 20, with noise up to the one given. */
 static void make_noisy(struct decoder_call *c, int noise)
 {
-    uint8_t u[DECODER_MAX_N], word[DECODER_MAX_N];
+    uint8_t payload[DECODER_MAX_N], u[DECODER_MAX_N], word[DECODER_MAX_N];
     size_t n = size_of(c);
     for (size_t i = 0; i < n; i++)
-        u[i] = (uint8_t)(reference_frozen(c->map, i) ? 0 : draw_below(2));
+        payload[i] = (uint8_t)draw_below(2);
+    reference_input(n, c->map, c->pairs.bytes, c->pairs.len, payload, u);
     reference_transform(n, u, word);
     for (size_t i = 0; i < n; i++)
         c->soft[i] = (int16_t)((word[i] ? -20 : 20) + draw_soft(noise));
@@ -109,7 +112,7 @@ void decoder_call_good(struct decoder_call *c, uint32_t m, enum code_kind code, 
                        uint32_t list_size, uint32_t stop)
 {
     make_code(c, m, code);
-    make_soft(c, soft);
+    decoder_call_pair(c, pairs_any_kind(), soft);
     c->list_size = list_size;
     c->stop = stop;
     decoder_call_trim(c);
@@ -121,7 +124,29 @@ void decoder_call_good(struct decoder_call *c, uint32_t m, enum code_kind code, 
     c->refusal = 0;
 }
 
+void decoder_call_quick(struct decoder_call *c, uint32_t m)
+{
+    static const uint32_t list_sizes[6] = {1, 2, 3, 16, 31, 32};
+    uint32_t l = list_sizes[draw_below(m < 9 ? 6 : 3)];
+    uint32_t stop = (uint32_t)draw_below((1u << m) + 1);
+    decoder_call_good(c, m, CODE_FEW_CLEAR, (enum soft_kind)draw_below(SOFT_KINDS), l, stop);
+}
+
+void decoder_call_pair(struct decoder_call *c, enum pair_kind pairs, enum soft_kind soft)
+{
+    pairs_draw(&c->pairs, c->map, size_of(c), pairs);
+    make_soft(c, soft);
+}
+
 /* ---- what is known of them */
+
+int decoder_follows(const struct decoder_call *c, const uint8_t *input)
+{
+    for (size_t i = 0; i < c->stop; i++)
+        if (reference_frozen(c->map, i) && input[i] != reference_frozen_bit(c->pairs.bytes, c->pairs.len, i, input))
+            return 0;
+    return 1;
+}
 
 uint32_t decoder_rows(const struct decoder_call *c)
 {
@@ -235,16 +260,17 @@ static int spoil(struct decoder_call *c, uint32_t refusal)
     case 8: c->numbers_len = shorter(32 * n * l); return 1;
     case 9: c->bytes_len = shorter((4 * n + 256) * l); return 1;
     case 10: shorten_outputs(c); return 1;
+    case 15: pairs_break_somehow(&c->pairs, c->map, n, PART_OF_A_PAIR); return 1;
     default: abort();
     }
 }
 
 void decoder_call_spoil(struct decoder_call *c, unsigned faults)
 {
-    /* From the last refusal to the first: what a fault is measured by (m, the list
-     * size, the length of the soft values) is spoiled only after it, and the refusal
+    /* From the last refusal to the first: what a fault is measured by (m, the map, the
+     * list size, the length of the soft values) is spoiled only after it, and the refusal
      * set last is the first one in the order. */
-    for (uint32_t refusal = DECODER_REFUSALS; refusal > 0; refusal--)
-        if (faults >> (refusal - 1) & 1 && spoil(c, refusal))
-            c->refusal = refusal;
+    for (size_t j = DECODER_REFUSALS; j > 0; j--)
+        if (faults >> (j - 1) & 1 && spoil(c, decoder_order[j - 1]))
+            c->refusal = decoder_order[j - 1];
 }

@@ -5,11 +5,16 @@
 #ifndef DECODER_CALLS_H
 #define DECODER_CALLS_H
 
+#include "pairs.h"
+
 #include <stddef.h>
 #include <stdint.h>
 
 enum { DECODER_MIN_M = 2, DECODER_MAX_M = 10, DECODER_MAX_N = 1 << DECODER_MAX_M };
-enum { DECODER_MAX_LIST = 32, DECODER_REFUSALS = 10 };
+enum { DECODER_MAX_LIST = 32, DECODER_REFUSALS = 11, DECODER_ANSWERS = 16 };
+
+/* The refusals of a call, first one first, as the rules have them. */
+extern const uint32_t decoder_order[DECODER_REFUSALS];
 
 /* No map and no soft values of a call are longer. */
 enum { MAP_ROOM = 512, SOFT_ROOM = 4 * DECODER_MAX_N };
@@ -29,23 +34,35 @@ enum soft_kind {
 struct decoder_call {
     uint32_t m, list_size, stop;
     uint8_t map[MAP_ROOM];   /* filled to its end, so that any length is a slice */
-    int16_t soft[SOFT_ROOM]; /* so are these, and all in range */
+    struct pairs pairs;
+    int16_t soft[SOFT_ROOM]; /* filled to its end, and all in range */
     size_t map_len, soft_len;
     size_t numbers_len, bytes_len, inputs_len, words_len, scores_len;
     uint32_t refusal; /* what the call must be refused with; 0 if it must be served */
 };
 
-/* A call that is served. What is lent has the length needed or is longer. */
+/* A call that is served, with pairs of any kind. What is lent has the length needed or is
+ * longer. */
 void decoder_call_good(struct decoder_call *c, uint32_t m, enum code_kind code, enum soft_kind soft,
                        uint32_t list_size, uint32_t stop);
+
+/* A good call that the paper decoder, too, serves soon: few positions are clear. From
+ * n = 32 on its map allows more than 256 pairs. */
+void decoder_call_quick(struct decoder_call *c, uint32_t m);
+
+/* Gives a good call pairs of a kind, by its map, and new soft values. */
+void decoder_call_pair(struct decoder_call *c, enum pair_kind pairs, enum soft_kind soft);
 
 /* Gives what is lent exactly the lengths that are needed. */
 void decoder_call_trim(struct decoder_call *c);
 
-/* Makes a good call faulty: bit j of faults asks for refusal j + 1. One that the
- * code cannot have (3, where n is not 4) is left out. The call's refusal becomes the
+/* Makes a good call faulty: bit j of faults asks for refusal decoder_order[j]. One that
+ * the code cannot have (3, where n is not 4) is left out. The call's refusal becomes the
  * first that applies, 0 if none. */
 void decoder_call_spoil(struct decoder_call *c, unsigned faults);
+
+/* 1 if the frozen bits of an input below the stop position are those that the pairs give. */
+int decoder_follows(const struct decoder_call *c, const uint8_t *input);
 
 /* What is known of a call that is served: the number of its rows, min(l, 2^q) for q clear
  * positions below the stop; whether prefixes are dropped, which they are if 2^q is above l. */

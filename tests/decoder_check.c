@@ -4,6 +4,7 @@
 #include "decoder_memory.h"
 #include "decoder_tally.h"
 #include "paper_decoder.h"
+#include "reference_codec.h"
 
 #include <signal.h>
 #include <stdio.h>
@@ -13,7 +14,7 @@
 _Static_assert(CALDURREX_BAD_M == 1 && CALDURREX_BAD_MAP_LENGTH == 2 && CALDURREX_BAD_MAP_BIT == 3 &&
                    CALDURREX_BAD_LIST_SIZE == 4 && CALDURREX_BAD_STOP == 5 && CALDURREX_BAD_INPUT_LENGTH == 6 &&
                    CALDURREX_BAD_SOFT_VALUE == 7 && CALDURREX_SHORT_NUMBERS == 8 && CALDURREX_SHORT_BYTES == 9 &&
-                   CALDURREX_SHORT_OUTPUT == 10,
+                   CALDURREX_SHORT_OUTPUT == 10 && CALDURREX_BAD_PAIRS == 15,
                "the header names the refusals by the numbers of the rules");
 _Static_assert(CALDURREX_NUMBERS(4, 1) == 128 && CALDURREX_NUMBERS(1024, 32) == 1048576 &&
                    CALDURREX_BYTES(4, 1) == 272 && CALDURREX_BYTES(1024, 32) == 139264 && CALDURREX_ROWS(8, 3) == 24,
@@ -65,12 +66,15 @@ static void print_difference(const struct decoder_call *c, uint32_t rows)
 void decoder_check_fail(const struct decoder_call *c, const char *what)
 {
     printf("%s: %s\n", program, what);
-    printf("  m %lu, list size %lu, stop %lu, map of %zu, soft values %zu, numbers %zu, bytes %zu, inputs %zu, words "
-           "%zu, scores %zu\n  map ",
-           (unsigned long)c->m, (unsigned long)c->list_size, (unsigned long)c->stop, c->map_len, c->soft_len,
-           c->numbers_len, c->bytes_len, c->inputs_len, c->words_len, c->scores_len);
+    printf("  m %lu, list size %lu, stop %lu, map of %zu, pairs of %zu, soft values %zu, numbers %zu, bytes %zu, "
+           "inputs %zu, words %zu, scores %zu\n  map ",
+           (unsigned long)c->m, (unsigned long)c->list_size, (unsigned long)c->stop, c->map_len, c->pairs.len,
+           c->soft_len, c->numbers_len, c->bytes_len, c->inputs_len, c->words_len, c->scores_len);
     for (size_t i = 0; i < c->map_len && i < 128; i++)
         printf("%02x", c->map[i]);
+    printf("\n  pairs");
+    for (size_t j = 0; j < pairs_count(&c->pairs) && j < 260; j++)
+        printf(" %zu-%zu", reference_pair_at(c->pairs.bytes, j).f, reference_pair_at(c->pairs.bytes, j).e);
     printf("\n  soft");
     for (size_t i = 0; i < c->soft_len && i < 1024; i++)
         printf(" %d", c->soft[i]);
@@ -102,8 +106,8 @@ void decoder_check_open(const char *program_used, unsigned long seed_used)
 static struct paper_decoded ask_paper(const struct decoder_call *c)
 {
     decoder_memory_want(c, want);
-    return paper_decode(c->m, c->map, c->map_len, c->list_size, c->stop, c->soft, c->soft_len,
-                        (uint32_t *)(void *)want[NUMBERS], c->numbers_len, want[BYTES], c->bytes_len,
+    return paper_decode(c->m, c->map, c->map_len, c->pairs.bytes, c->pairs.len, c->list_size, c->stop, c->soft,
+                        c->soft_len, (uint32_t *)(void *)want[NUMBERS], c->numbers_len, want[BYTES], c->bytes_len,
                         want[INPUTS], c->inputs_len, want[WORDS], c->words_len,
                         (int32_t *)(void *)want[SCORES], c->scores_len);
 }
@@ -113,10 +117,10 @@ static struct caldurrex_decoded ask_library(const struct decoder_call *c, const 
     decoder_memory_place(c, dirt, lent);
     under_way = c;
     struct caldurrex_decoded answer = caldurrex_decode(
-        c->m, lent[MAP]->at, c->map_len, c->list_size, c->stop, (const int16_t *)(const void *)lent[SOFT]->at,
-        c->soft_len, (uint32_t *)(void *)lent[NUMBERS]->at, c->numbers_len, lent[BYTES]->at, c->bytes_len,
-        lent[INPUTS]->at, c->inputs_len, lent[WORDS]->at, c->words_len, (int32_t *)(void *)lent[SCORES]->at,
-        c->scores_len);
+        c->m, lent[MAP]->at, c->map_len, lent[PAIRS]->at, c->pairs.len, c->list_size, c->stop,
+        (const int16_t *)(const void *)lent[SOFT]->at, c->soft_len, (uint32_t *)(void *)lent[NUMBERS]->at,
+        c->numbers_len, lent[BYTES]->at, c->bytes_len, lent[INPUTS]->at, c->inputs_len, lent[WORDS]->at, c->words_len,
+        (int32_t *)(void *)lent[SCORES]->at, c->scores_len);
     under_way = NULL;
     return answer;
 }
@@ -177,7 +181,14 @@ void decoder_check(const struct decoder_call *c, uint32_t sizes_of)
         judge(c, &right);
         decoder_memory_draw_other(dirt);
     }
-    decoder_tally(c, sizes_of, last_answer.ceiling, decoder_check_outputs().scores);
+    struct decoder_outputs out = decoder_check_outputs();
+    decoder_tally(c, sizes_of, &out);
+}
+
+void decoder_check_as(struct decoder_call *c, uint32_t sizes_of, uint32_t refusal)
+{
+    c->refusal = refusal;
+    decoder_check(c, sizes_of);
 }
 
 void decoder_check_served(const struct decoder_call *c, uint32_t sizes_of)
@@ -193,7 +204,11 @@ void decoder_check_served(const struct decoder_call *c, uint32_t sizes_of)
             memcpy(want[slice], lent[slice]->at, lent[slice]->len);
     }
     judge(c, NULL);
-    decoder_tally(c, sizes_of, last_answer.ceiling, decoder_check_outputs().scores);
+    struct decoder_outputs out = decoder_check_outputs();
+    for (size_t r = 0; r < out.rows; r++)
+        if (!decoder_follows(c, out.inputs + (r << c->m)))
+            decoder_check_fail(c, "a row does not follow the pairs");
+    decoder_tally(c, sizes_of, &out);
 }
 
 struct decoder_outputs decoder_check_outputs(void)

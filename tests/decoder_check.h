@@ -17,9 +17,13 @@ void decoder_check_open(const char *program, unsigned long seed);
  * the sizes were made for: the m passed may be another. */
 void decoder_check(const struct decoder_call *c, uint32_t sizes_of);
 
+/* The same, for a call that must have this refusal, 0 if it must be served. */
+void decoder_check_as(struct decoder_call *c, uint32_t sizes_of, uint32_t refusal);
+
 /* The same once, for a call that must be served, without the paper decoder: what the
  * call leaves in its outputs is for the caller to judge. The row count, the limits of the
- * ceiling, the tables, the inputs and all guards are judged here. */
+ * ceiling, that each row follows the pairs, the tables, the inputs and all guards are
+ * judged here. */
 void decoder_check_served(const struct decoder_call *c, uint32_t sizes_of);
 
 /* What the last call answered and left in its outputs. */

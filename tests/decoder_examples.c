@@ -45,6 +45,27 @@ static const struct example {
     {0x03, 2, 4, {5, -2048, 2047, 7}, 2, 12, {{12, "0000", "0000"}, {12, "0010", "0110"}}},
 };
 
+/* With pairs. */
+static const struct paired_example {
+    size_t pairs_len;
+    uint8_t pairs[12];
+    struct example block;
+} paired[] = {
+    /* Frozen 0, 2 and 3: the bit at 2 is that at 1, the bit at 3 the sum of both. At stop 3 a
+     * score leaves the bit at 3 free. */
+    {12, {2, 0, 1, 0, 3, 0, 1, 0, 3, 0, 2, 0},
+     {0x0d, 2, 4, {5, -3, 2, 7}, 2, 11, {{11, "0000", "0000"}, {-3, "0110", "1010"}}}},
+    {12, {2, 0, 1, 0, 3, 0, 1, 0, 3, 0, 2, 0},
+     {0x0d, 2, 3, {5, -3, 2, 7}, 2, 11, {{11, "0000", "0000"}, {3, "0110", "1010"}}}},
+    {12, {2, 0, 1, 0, 3, 0, 1, 0, 3, 0, 2, 0}, {0x0d, 1, 4, {5, -3, 2, 7}, 1, 11, {{11, "0000", "0000"}}}},
+    /* Frozen 1, 2 and 3, each following the one before it. */
+    {12, {1, 0, 0, 0, 2, 0, 1, 0, 3, 0, 2, 0},
+     {0x0e, 2, 4, {1, -5, 2, 2}, 2, 4, {{4, "1111", "1101"}, {0, "0000", "0000"}}}},
+    {12, {1, 0, 0, 0, 2, 0, 1, 0, 3, 0, 2, 0}, {0x0e, 1, 4, {1, -5, 2, 2}, 1, 8, {{4, "1111", "1101"}}}},
+    /* The same with one pair, (3, 0). */
+    {4, {3, 0, 0, 0}, {0x0e, 2, 4, {1, -5, 2, 2}, 2, 2, {{2, "1001", "0111"}, {0, "0000", "0000"}}}},
+};
+
 static int row_is(const struct decoder_outputs *out, size_t r, int32_t score, const char *input, const char *word)
 {
     int same = out->scores[r] == score;
@@ -53,11 +74,14 @@ static int row_is(const struct decoder_outputs *out, size_t r, int32_t score, co
     return same;
 }
 
-static void check_rows(const struct example *e)
+static void check_rows(const struct example *e, const uint8_t *pairs, size_t pairs_len)
 {
     struct decoder_call c;
     decoder_call_good(&c, 2, CODE_OPEN, SOFT_ZERO, e->list_size, e->stop);
     c.map[0] = e->map;
+    c.pairs.len = pairs_len;
+    if (pairs_len > 0)
+        memcpy(c.pairs.bytes, pairs, pairs_len);
     memcpy(c.soft, e->soft, sizeof e->soft);
     decoder_check(&c, 2);
     struct decoder_outputs out = decoder_check_outputs();
@@ -122,6 +146,32 @@ static void check_refusal(const struct refused_example *e)
     decoder_check(&c, e->m < DECODER_MIN_M ? DECODER_MIN_M : e->m > DECODER_MAX_M ? DECODER_MAX_M : e->m);
 }
 
+/* Frozen 0, 2 and 3 unless said; 3 comes before 15, and 4 behind it. */
+static const struct refused_pairs {
+    uint8_t map;
+    uint32_t list_size;
+    size_t pairs_len;
+    uint8_t pairs[8];
+    uint32_t refusal;
+} refused_pairs[] = {
+    {0x0d, 1, 4, {3, 0, 2}, 0},          {0x0d, 1, 4, {1, 0, 0}, 15},         {0x0d, 1, 4, {4, 0, 0}, 15},
+    {0x0d, 1, 4, {2, 0, 2}, 15},         {0x0d, 1, 8, {2, 0, 1, 0, 2, 0, 1}, 15},
+    {0x0d, 1, 8, {3, 0, 0, 0, 2, 0, 1}, 15}, {0x0d, 1, 8, {3, 0, 1, 0, 3, 0, 0}, 15},
+    {0x0d, 1, 3, {2, 0, 1}, 15},         {0x1d, 1, 1, {2}, 3},                {0x0d, 0, 1, {2}, 15},
+    {0x0d, 0, 4, {2, 0, 1}, 4},
+};
+
+static void check_refused_pairs(const struct refused_pairs *e)
+{
+    struct decoder_call c;
+    decoder_call_good(&c, 2, CODE_OPEN, SOFT_SMALL, 1, 4);
+    c.map[0] = e->map;
+    c.list_size = e->list_size;
+    c.pairs.len = e->pairs_len;
+    memcpy(c.pairs.bytes, e->pairs, e->pairs_len);
+    decoder_check_as(&c, 2, e->refusal);
+}
+
 static void check_largest(void)
 {
     struct decoder_call c;
@@ -154,9 +204,13 @@ static void check_ends(uint32_t m)
 void decoder_examples(void)
 {
     for (size_t i = 0; i < sizeof examples / sizeof examples[0]; i++)
-        check_rows(&examples[i]);
+        check_rows(&examples[i], NULL, 0);
+    for (size_t i = 0; i < sizeof paired / sizeof paired[0]; i++)
+        check_rows(&paired[i].block, paired[i].pairs, paired[i].pairs_len);
     for (size_t i = 0; i < sizeof refused / sizeof refused[0]; i++)
         check_refusal(&refused[i]);
+    for (size_t i = 0; i < sizeof refused_pairs / sizeof refused_pairs[0]; i++)
+        check_refused_pairs(&refused_pairs[i]);
     check_largest();
     for (uint32_t m = DECODER_MIN_M; m <= DECODER_MAX_M; m++)
         check_ends(m);

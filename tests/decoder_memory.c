@@ -9,7 +9,8 @@
 static const struct {
     const char *name;
     size_t unit; /* bytes an element */
-} slices[SLICES] = {{"map", 1}, {"soft", 2}, {"numbers", 4}, {"bytes", 1}, {"inputs", 1}, {"words", 1}, {"scores", 4}};
+} slices[SLICES] = {{"map", 1},   {"pairs", 1},  {"soft", 2},  {"numbers", 4},
+                    {"bytes", 1}, {"inputs", 1}, {"words", 1}, {"scores", 4}};
 
 /* Rooms of 4096 bytes and of every power of two above, so that a short slice need not
  * be placed in a long room. */
@@ -26,8 +27,8 @@ static void need(int ok, const char *what)
 
 static void lengths(const struct decoder_call *c, size_t len[SLICES])
 {
-    const size_t all[SLICES] = {c->map_len, c->soft_len, c->numbers_len, c->bytes_len,
-                                c->inputs_len, c->words_len, c->scores_len};
+    const size_t all[SLICES] = {c->map_len, c->pairs.len, c->soft_len, c->numbers_len,
+                                c->bytes_len, c->inputs_len, c->words_len, c->scores_len};
     for (size_t slice = 0; slice < SLICES; slice++)
         len[slice] = all[slice] * slices[slice].unit;
 }
@@ -98,6 +99,7 @@ void decoder_memory_place(const struct decoder_call *c, const enum dirt dirt[SLI
     size_t len[SLICES];
     lengths(c, len);
     lent[MAP] = place(MAP, c->map, len[MAP], DIRT_ANY);
+    lent[PAIRS] = place(PAIRS, c->pairs.bytes, len[PAIRS], DIRT_ANY);
     lent[SOFT] = place(SOFT, c->soft, len[SOFT], DIRT_ANY);
     for (size_t slice = FIRST_WRITTEN; slice < SLICES; slice++)
         lent[slice] = place(slice, NULL, len[slice], dirt[slice]);

@@ -9,7 +9,7 @@
 #include "lent.h"
 
 /* What is passed to a call, in the order of its arguments; the last five are written. */
-enum { MAP, SOFT, NUMBERS, BYTES, INPUTS, WORDS, SCORES, SLICES, FIRST_WRITTEN = NUMBERS };
+enum { MAP, PAIRS, SOFT, NUMBERS, BYTES, INPUTS, WORDS, SCORES, SLICES, FIRST_WRITTEN = NUMBERS };
 
 /* What lies in memory before a call: nothing but 0, nothing but 1 bits, small numbers
  * (a left-over cost or bit would look so, and would win a comparison that a large one

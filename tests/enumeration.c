@@ -38,20 +38,31 @@ static int compare_entries(const void *x, const void *y)
     return a->prefix < b->prefix ? -1 : a->prefix > b->prefix;
 }
 
-void enumerated_lists(size_t n, const uint8_t *map, size_t l, const int16_t *soft, struct step *steps)
+/* The bit that a frozen position has behind the bits of u. */
+static size_t frozen_bit(const struct enumerated_code *code, size_t at, const uint8_t *u)
 {
+    size_t ones = 0;
+    for (size_t i = 0; i < at; i++)
+        ones += code->follows[at][i] && u[i];
+    return ones % 2;
+}
+
+void enumerated_lists(const struct enumerated_code *code, size_t l, const int16_t *soft, struct step *steps)
+{
+    size_t n = code->n;
     steps[0] = (struct step){1, 1, {{0, enumerated_score(n, soft, NULL, 0)}}};
     for (size_t at = 0; at < n; at++) {
         const struct step *from = &steps[at];
         struct step *to = &steps[at + 1];
         to->count = 0;
         for (size_t r = 0; r < from->live; r++) {
-            for (size_t bit = 0; bit < (reference_frozen(map, at) ? 1 : 2); bit++) {
-                struct entry *child = &to->child[to->count++];
+            for (size_t bit = 0; bit < 2; bit++) {
                 uint8_t u[ENUMERATED_MAX_N];
-                child->prefix = 2 * from->child[r].prefix + bit;
-                bits_of(child->prefix, at + 1, u);
-                child->score = enumerated_score(n, soft, u, at + 1);
+                size_t prefix = 2 * from->child[r].prefix + bit;
+                bits_of(prefix, at + 1, u);
+                if (code->frozen[at] && bit != frozen_bit(code, at, u))
+                    continue;
+                to->child[to->count++] = (struct entry){prefix, enumerated_score(n, soft, u, at + 1)};
             }
         }
         qsort(to->child, to->count, sizeof to->child[0], compare_entries);
@@ -59,18 +70,24 @@ void enumerated_lists(size_t n, const uint8_t *map, size_t l, const int16_t *sof
     }
 }
 
-int32_t enumerated_best(size_t n, const uint8_t *map, const int16_t *soft)
+int enumerated_member(const struct enumerated_code *code, const uint8_t *u)
 {
-    size_t k = reference_clear(map, n);
+    int member = 1;
+    for (size_t i = 0; i < code->n; i++)
+        member &= !code->frozen[i] || u[i] == frozen_bit(code, i, u);
+    return member;
+}
+
+int32_t enumerated_best(const struct enumerated_code *code, const int16_t *soft)
+{
     int32_t most = INT32_MIN;
-    for (size_t number = 0; number < (size_t)1 << k; number++) {
-        uint8_t payload[ENUMERATED_MAX_N], u[ENUMERATED_MAX_N], word[ENUMERATED_MAX_N];
-        size_t taken = 0;
-        bits_of(number, k, payload);
-        for (size_t i = 0; i < n; i++)
-            u[i] = reference_frozen(map, i) ? 0 : payload[taken++];
-        reference_transform(n, u, word);
-        most = larger(most, paper_correlation(n, soft, word));
+    for (size_t number = 0; number < (size_t)1 << code->n; number++) {
+        uint8_t u[ENUMERATED_MAX_N], word[ENUMERATED_MAX_N];
+        bits_of(number, code->n, u);
+        if (!enumerated_member(code, u))
+            continue;
+        reference_transform(code->n, u, word);
+        most = larger(most, paper_correlation(code->n, soft, word));
     }
     return most;
 }

@@ -33,11 +33,21 @@ struct step {
     struct entry child[2 * PAPER_MAX_LIST];
 };
 
+/* A code whose frozen bits are given by tables: the bit at a frozen position i is the sum of
+ * those at all j for which follows[i][j] is 1. */
+struct enumerated_code {
+    size_t n;
+    uint8_t frozen[ENUMERATED_MAX_N], follows[ENUMERATED_MAX_N][ENUMERATED_MAX_N];
+};
+
 /* The lists by the letter of the rules: step p is the one after p positions, and there
  * are n + 1 of them. */
-void enumerated_lists(size_t n, const uint8_t *map, size_t l, const int16_t *soft, struct step *steps);
+void enumerated_lists(const struct enumerated_code *code, size_t l, const int16_t *soft, struct step *steps);
 
-/* The highest correlation of a word of the code, by trying every payload. */
-int32_t enumerated_best(size_t n, const uint8_t *map, const int16_t *soft);
+/* 1 if each frozen bit of an input of n bits is the one that its rule gives. */
+int enumerated_member(const struct enumerated_code *code, const uint8_t *u);
+
+/* The highest correlation of a word of the code, by trying every input. */
+int32_t enumerated_best(const struct enumerated_code *code, const int16_t *soft);
 
 #endif

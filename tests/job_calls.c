@@ -10,10 +10,13 @@ const char *const job_kind_name[JOB_KINDS] = {
     [JOB_CUT] = "cut",
     [JOB_LONGER] = "too long",
     [JOB_BEYOND] = "above 4096 bytes",
-    [JOB_BAD_FIELD_MAP] = "bits 3 to 7 of the first byte",
+    [JOB_BAD_FIELD_MAP] = "bits 4 to 7 of the first byte",
     [JOB_BAD_M] = "m out of range",
     [JOB_LAID_OUT_FOR_BAD_M] = "m out of range, as long as it asks for",
+    [JOB_CUT_AT_COUNT] = "ends before or inside the number of pairs",
+    [JOB_BAD_COUNT] = "number of pairs above 256",
     [JOB_BAD_MAP_BIT] = "map bit past n",
+    [JOB_BAD_PAIRS] = "pair that breaks a rule",
     [JOB_BAD_LIST_SIZE] = "list size out of range",
     [JOB_BAD_STOP] = "stop position above n",
     [JOB_BAD_SOFT] = "soft value out of range",
@@ -54,8 +57,20 @@ void job_pack(struct job_record *r)
         put(r, r->frame, 4);
     for (size_t i = 0; i < job_map_len(r->m); i++)
         put(r, r->map[i], 1);
+    if (r->fields & JOB_PAIRS) {
+        put(r, r->count, 2);
+        for (size_t i = 0; i < r->pairs.len; i++)
+            put(r, r->pairs.bytes[i], 1);
+    }
     for (size_t i = 0; i < (size_t)1 << r->m; i++)
         put(r, (uint32_t)r->soft[i], 2);
+}
+
+size_t job_count_at(const struct job_record *r)
+{
+    unsigned fields = r->fields;
+    return 2 + (fields & JOB_LIST_SIZE ? 1 : 0) + (fields & JOB_STOP ? 2 : 0) + (fields & JOB_FRAME ? 4 : 0) +
+           job_map_len(r->m);
 }
 
 /* ---- good records */
@@ -103,118 +118,26 @@ void job_good(struct job_record *r, uint32_t m, unsigned fields, unsigned plain)
     r->frame = drawn & JOB_FRAME ? draw_frame() : 0;
     r->refusal = 0;
     draw_code(r);
+    job_pair(r, drawn & JOB_PAIRS ? (enum pair_kind)draw_below(PAIR_KINDS) : PAIRS_NONE);
     draw_soft(r);
     job_pack(r);
 }
 
-/* ---- faults */
-
-static uint32_t bad_m(void)
+void job_pair(struct job_record *r, enum pair_kind kind)
 {
-    const uint32_t all[8] = {0, 1, 11, 12, 34, 130, 255, 11 + (uint32_t)draw_below(245)};
-    return among(all, 8);
+    r->pairs.len = 0;
+    if (kind != PAIRS_NONE)
+        pairs_draw(&r->pairs, r->map, (size_t)1 << r->m, kind);
+    r->count = (uint32_t)pairs_count(&r->pairs);
 }
 
-static uint32_t bad_list_size(void)
+void job_paired(struct job_record *r, uint32_t m, unsigned fields, enum pair_kind kind)
 {
-    const uint32_t all[5] = {0, 33, 36, 255, 33 + (uint32_t)draw_below(223)};
-    return among(all, 5);
-}
-
-static uint32_t bad_stop(uint32_t n)
-{
-    const uint32_t all[5] = {n + 1, n + 256, 0x8000, 0xffff, n + 1 + (uint32_t)draw_below(65535 - n)};
-    return among(all, 5);
-}
-
-static void spoil_softs(struct job_record *r)
-{
-    int16_t far = (int16_t)(2048 + draw_below(30720));
-    const int16_t values[6] = {2048, -2049, -32768, 32767, far, (int16_t)(-far - 1)};
-    size_t n = (size_t)1 << r->m, places[3] = {0, n - 1, draw_below(n)};
-    size_t at = places[draw_below(3)];
-    for (size_t times = draw_below(2) ? 1 : 1 + draw_below(8); times > 0; times--) {
-        r->soft[at] = values[draw_below(6)];
-        at = draw_below(n);
-    }
-}
-
-static void cut(struct job_record *r)
-{
-    size_t by[7] = {1, 2, 4, r->len, r->len - 1, r->len - 2, 1 + draw_below(r->len)};
-    r->len -= by[draw_below(7)];
-}
-
-/* What is added is often 0, which a reader may take for values. */
-static void lengthen(struct job_record *r, size_t to)
-{
-    if (draw_below(2))
-        memset(r->bytes + r->len, 0, to - r->len);
-    else
-        draw_bytes(r->bytes + r->len, to - r->len);
-    r->len = to;
-}
-
-static void lengthen_some(struct job_record *r)
-{
-    size_t to[7] = {r->len + 1, r->len + 2, r->len + 4, 2 * r->len, 4095, 4096, r->len + 1 + draw_below(64)};
-    lengthen(r, to[draw_below(7)]);
-}
-
-static void lengthen_beyond(struct job_record *r)
-{
-    size_t to[5] = {4097, 4098, 4096 + r->len, JOB_ROOM, 4097 + draw_below(JOB_ROOM - 4096)};
-    lengthen(r, to[draw_below(5)]);
-}
-
-static void spoil_length(struct job_record *r)
-{
-    size_t which = draw_below(5);
-    if (which < 2)
-        cut(r);
-    else if (which < 4)
-        lengthen_some(r);
-    else
-        lengthen_beyond(r);
-}
-
-/* The first that applies to a record with these faults. */
-static uint32_t first_refusal(const struct job_record *r, unsigned faults)
-{
-    static const uint32_t numbers[7] = {14, 1, 13, 3, 4, 5, 7};
-    if (r->len == 0 || (r->len == 1 && !(faults & FAULT_FIELD_MAP)))
-        return 13;
-    for (size_t i = 0; i < 7; i++)
-        if (faults >> i & 1)
-            return numbers[i];
-    return 0;
-}
-
-void job_spoil(struct job_record *r, unsigned faults)
-{
-    uint32_t n = (uint32_t)1 << r->m;
-    if (n != 4)
-        faults &= ~(unsigned)FAULT_MAP_BIT;
-    if (faults & FAULT_MAP_BIT)
-        r->map[0] |= (uint8_t)(16u * (1 + draw_below(15)));
-    if (faults & FAULT_LIST_SIZE) {
-        r->fields |= JOB_LIST_SIZE;
-        r->list_size = bad_list_size();
-    }
-    if (faults & FAULT_STOP) {
-        r->fields |= JOB_STOP;
-        r->stop = bad_stop(n);
-    }
-    if (faults & FAULT_SOFT)
-        spoil_softs(r);
+    do
+        job_good(r, m, JOB_PAIRS | fields, JOB_PAIRS);
+    while (pairs_allowed(r->map, (size_t)1 << m) <= (m < 5 ? 0 : PAIRS_MOST));
+    job_pair(r, kind);
     job_pack(r);
-    if (faults & FAULT_LENGTH)
-        spoil_length(r);
-    if (faults & FAULT_M)
-        r->bytes[1] = (uint8_t)bad_m();
-    if (faults & FAULT_FIELD_MAP)
-        r->bytes[0] |= (uint8_t)(draw_below(2) ? 8u << draw_below(5) : 8 * (1 + draw_below(31)));
-    r->refusal = first_refusal(r, faults);
 }
 
 /* ---- records of a kind */
@@ -244,13 +167,28 @@ static void make_random(struct job_record *r)
     r->refusal = JOB_UNKNOWN;
 }
 
-/* A record for n = 1, 2 or 2048 that has everything in its place. */
+/* A record for n = 1, 2 or 2048 that has everything in its place; it has no pair. */
 static void make_laid_out_for_bad_m(struct job_record *r)
 {
     static const uint32_t all[3] = {0, 1, 11};
     uint32_t m = among(all, 3);
-    job_good(r, m, (unsigned)draw_below(JOB_FIELD_SETS), 0);
+    job_good(r, m, (unsigned)draw_below(JOB_FIELD_SETS), JOB_PAIRS);
     r->refusal = 1;
+}
+
+static void make_cut_at_count(struct job_record *r)
+{
+    r->fields |= JOB_PAIRS;
+    job_pack(r);
+    r->len = 2 + draw_below(job_count_at(r));
+    r->refusal = 13;
+}
+
+static void make_one_byte(struct job_record *r)
+{
+    r->bytes[0] = (uint8_t)(draw_below(2) ? draw_below(JOB_FIELD_SETS) : draw_below(256));
+    r->len = 1;
+    r->refusal = r->bytes[0] < JOB_FIELD_SETS ? 13 : 14;
 }
 
 /* The faults of a kind, for those that are a good record with faults. */
@@ -259,7 +197,9 @@ static unsigned faults_of(enum job_kind kind)
     switch (kind) {
     case JOB_BAD_FIELD_MAP: return FAULT_FIELD_MAP;
     case JOB_BAD_M: return FAULT_M;
+    case JOB_BAD_COUNT: return FAULT_COUNT;
     case JOB_BAD_MAP_BIT: return FAULT_MAP_BIT;
+    case JOB_BAD_PAIRS: return FAULT_PAIRS;
     case JOB_BAD_LIST_SIZE: return FAULT_LIST_SIZE;
     case JOB_BAD_STOP: return FAULT_STOP;
     case JOB_BAD_SOFT: return FAULT_SOFT;
@@ -282,15 +222,12 @@ void job_make(struct job_record *r, enum job_kind kind)
     if (faults != 0)
         job_spoil(r, faults);
     switch (kind) {
-    case JOB_CUT: cut(r); r->refusal = 13; break;
-    case JOB_LONGER: lengthen_some(r); r->refusal = 13; break;
-    case JOB_BEYOND: lengthen_beyond(r); r->refusal = 13; break;
+    case JOB_CUT: job_cut(r); r->refusal = 13; break;
+    case JOB_CUT_AT_COUNT: make_cut_at_count(r); break;
+    case JOB_LONGER: job_lengthen(r); r->refusal = 13; break;
+    case JOB_BEYOND: job_lengthen_beyond(r); r->refusal = 13; break;
     case JOB_EMPTY: r->len = 0; r->refusal = 13; break;
-    case JOB_ONE_BYTE:
-        r->bytes[0] = (uint8_t)(draw_below(2) ? draw_below(8) : draw_below(256));
-        r->len = 1;
-        r->refusal = r->bytes[0] < 8 ? 13 : 14;
-        break;
+    case JOB_ONE_BYTE: make_one_byte(r); break;
     default: break;
     }
     r->kind = kind;

@@ -6,92 +6,13 @@
  * ours is linked.
  */
 #include "paper_decoder.h"
+#include "record_plan.h"
 #include "reference_codec.h"
 #include "reference_job.h"
 
 #include <stdio.h>
 #include <stdlib.h>
 #include <string.h>
-
-enum { MAX_N = 1024, MAX_LIST = 32, MAX_RECORD = 4354 };
-
-struct record {
-    size_t len;
-    uint8_t bytes[MAX_RECORD];
-};
-
-/* ---- examples of the rules that a record can say; n = 4 and the soft values 5, -3, 2, 7 unless said */
-
-#define SOFT 0x05, 0x00, 0xfd, 0xff, 0x02, 0x00, 0x07, 0x00
-
-static const struct record examples[] = {
-    {12, {0x01, 2, 2, 0x03, SOFT}},                         /* the sample of the program's output */
-    {12, {0x01, 2, 4, 0x03, SOFT}},                         /* the same with l = 4 */
-    {12, {0x01, 2, 1, 0x0f, SOFT}},                         /* k = 0: the word of zeros, one row */
-    {12, {0x01, 2, 2, 0x00}},                               /* soft values all 0, nothing frozen */
-    {12, {0x01, 2, 1, 0x0e, 1, 0, 0xfb, 0xff, 2, 0, 2, 0}}, /* frozen 1, 2, 3, soft values 1, -5, 2, 2, l = 1 */
-    {12, {0x01, 2, 2, 0x0e, 1, 0, 0xfb, 0xff, 2, 0, 2, 0}}, /* and l = 2 */
-    {13, {0x02, 2, 0, 0, 0x03, SOFT}},                      /* stop position 0: one row of zeros */
-    {15, {0x04, 2, 0xff, 0xff, 0xff, 0xff, 0x03, SOFT}},    /* the largest frame number */
-    {18, {0x07, 2, 4, 4, 0, 0, 0, 0, 0, 0x03, SOFT}},       /* fields with the values that absence means */
-    {11, {0x00, 2, 0x03, 5, 0, 0x00, 0xf8, 0xff, 0x07, 7, 0}}, /* -2,048, taken as -2,047, and 2,047 */
-    {7, {0x00, 1}},                                         /* 1: m = 1 */
-    {MAX_RECORD, {0x00, 11}},                               /* 1: m = 11, as long as it asks for */
-    {11, {0x00, 2, 0x10, SOFT}},                            /* 3: map 10 hex */
-    {12, {0x01, 2, 0, 0x03, SOFT}},                         /* 4: l = 0 */
-    {12, {0x01, 2, 33, 0x03, SOFT}},                        /* 4: l = 33 */
-    {13, {0x02, 2, 5, 0, 0x03, SOFT}},                      /* 5: p = 5 */
-    {11, {0x00, 2, 0x03, 5, 0, 0xff, 0xf7, 2, 0, 7, 0}},    /* 7: a soft value of -2,049 */
-    {11, {0x00, 2, 0x03, 5, 0, 0x00, 0x08, 2, 0, 7, 0}},    /* 7: 2,048 */
-    {0, {0}},                                               /* 13: empty */
-    {1, {0x00}},                                            /* 13: one byte */
-    {10, {0x00, 2, 0x03, SOFT}},                            /* 13: a byte too few */
-    {12, {0x00, 2, 0x03, SOFT}},                            /* 13: a byte too many */
-    {11, {0x08, 2, 0x03, SOFT}},                            /* 14: first byte 08 hex */
-    {1, {0x08}},                                            /* 14 before 13 for one byte */
-    {3, {0x00, 11, 0x10}},                                  /* 1 before 13 and 3 */
-    {14, {0x03, 2, 0, 5, 0, 0x10, 5, 0, 0xff, 0xf7, 2, 0, 7, 0}}, /* 3 before 4, 5 and 7 */
-    {14, {0x03, 2, 0, 5, 0, 0x03, 5, 0, 0xff, 0xf7, 2, 0, 7, 0}}, /* 4 before 5 and 7 */
-    {14, {0x03, 2, 1, 5, 0, 0x03, 5, 0, 0xff, 0xf7, 2, 0, 7, 0}}, /* 5 before 7 */
-};
-
-enum { EXAMPLES = sizeof examples / sizeof examples[0] };
-
-/* ---- the plan of the long blocks */
-
-enum code { OPEN, QUARTER, HALF, MOST, FEW, SHUT, LIGHT };
-enum soft { ZERO, TIES, SPARSE, SMALL, WIDE, ENDS, NOISY };
-
-static const struct block {
-    uint32_t m, list, stop;
-    enum code code;
-    int limit; /* LIGHT: positions whose number has fewer ones are frozen */
-    enum soft soft;
-    uint64_t seed;
-} blocks[] = {
-    {4, 4, 16, HALF, 0, WIDE, 1402385107},
-    {5, 32, 32, OPEN, 0, TIES, 95512873},
-    {6, 8, 64, LIGHT, 3, NOISY, 2013265921},
-    {6, 32, 61, QUARTER, 0, ENDS, 700000001},
-    {7, 16, 64, OPEN, 0, SPARSE, 1234567891},
-    {7, 32, 128, HALF, 0, ZERO, 31415926},
-    {8, 1, 256, MOST, 0, NOISY, 271828182},
-    {8, 32, 253, LIGHT, 4, SMALL, 1618033988},
-    {9, 8, 512, LIGHT, 5, NOISY, 1414213562},
-    {9, 16, 509, MOST, 0, SPARSE, 1732050807},
-    {10, 32, 1024, LIGHT, 5, NOISY, 577215664},
-    {10, 32, 512, HALF, 0, TIES, 915965594},
-    {9, 32, 1, OPEN, 0, WIDE, 1202056903},
-    {10, 32, 0, HALF, 0, ENDS, 1098612288},
-    {10, 32, 1021, FEW, 0, WIDE, 693147180},
-    {10, 3, 1024, OPEN, 0, ENDS, 1644934066},
-    {10, 31, 1024, SHUT, 0, WIDE, 2147483646},
-    {10, 2, 1, QUARTER, 0, SMALL, 1},
-    {3, 32, 8, OPEN, 0, WIDE, 1324717957},
-    {10, 8, 1023, LIGHT, 6, NOISY, 1837877066},
-};
-
-enum { BLOCKS = sizeof blocks / sizeof blocks[0] };
 
 /* ---- the generator */
 
@@ -141,14 +62,37 @@ static void make_map(const struct block *b, size_t n, uint8_t *map)
     }
 }
 
+/* ---- pairs: two numbers for f and e, until there are enough; then in their order, as bytes */
+
+static void make_pairs(const struct block *b, size_t n, const uint8_t *map, uint8_t *pairs)
+{
+    static uint8_t follows[MAX_N][MAX_N];
+    memset(follows, 0, sizeof follows);
+    for (size_t count = 0; count < b->pairs;) {
+        size_t f = (size_t)draw_number() % n, e = (size_t)draw_number() % (f > 0 ? f : 1);
+        if (f > 0 && reference_frozen(map, f) && !follows[f][e]) {
+            follows[f][e] = 1;
+            count++;
+        }
+    }
+    for (size_t at = 0; at < n * n; at++) {
+        size_t f = at / n, e = at % n;
+        const uint8_t bytes[4] = {(uint8_t)f, (uint8_t)(f / 256), (uint8_t)e, (uint8_t)(e / 256)};
+        if (follows[f][e]) {
+            memcpy(pairs, bytes, 4);
+            pairs += 4;
+        }
+    }
+}
+
 /* ---- soft values: the code word of a drawn input, then one number for each value */
 
-static void make_word(size_t n, const uint8_t *map, uint8_t *word)
+static void make_word(const struct block *b, size_t n, const uint8_t *map, const uint8_t *pairs, uint8_t *word)
 {
     uint8_t input[MAX_N];
     for (size_t i = 0; i < n; i++) {
         int bit = draw_number() % 2;
-        input[i] = (uint8_t)(reference_frozen(map, i) ? 0 : bit);
+        input[i] = reference_frozen(map, i) ? reference_frozen_bit(pairs, 4 * b->pairs, i, input) : (uint8_t)bit;
     }
     reference_transform(n, input, word);
 }
@@ -181,22 +125,28 @@ static void put(struct record *r, uint32_t x, int count)
         r->bytes[r->len++] = (uint8_t)x;
 }
 
-/* A block of the plan, with every field; its place in the plan is the frame number. */
+/* A block of the plan, with every field but, where it has none, pairs; its place in the plan
+ * is the frame number. */
 static void make_block(const struct block *b, uint32_t frame, struct record *r)
 {
     size_t n = (size_t)1 << b->m;
-    uint8_t map[MAX_N / 8], word[MAX_N];
+    uint8_t map[MAX_N / 8], pairs[4 * MAX_PAIRS], word[MAX_N];
     state = b->seed;
     make_map(b, n, map);
-    make_word(n, map, word);
+    make_pairs(b, n, map, pairs);
+    make_word(b, n, map, pairs, word);
     r->len = 0;
-    put(r, 7, 1);
+    put(r, b->pairs > 0 ? 15 : 7, 1);
     put(r, b->m, 1);
     put(r, b->list, 1);
     put(r, b->stop, 2);
     put(r, frame, 4);
     for (size_t i = 0; i < n / 8; i++)
         put(r, map[i], 1);
+    if (b->pairs > 0)
+        put(r, (uint32_t)b->pairs, 2);
+    for (size_t i = 0; i < 4 * b->pairs; i++)
+        put(r, pairs[i], 1);
     for (size_t i = 0; i < n; i++)
         put(r, (uint32_t)soft_value(b->soft, word[i], draw_number()), 2);
 }
@@ -224,16 +174,16 @@ static void print_rows(const struct record *r)
     static uint8_t bytes[(4 * MAX_N + 256) * MAX_LIST];
     static uint8_t inputs[MAX_N * MAX_LIST], words[MAX_N * MAX_LIST];
     static int32_t scores[MAX_LIST];
-    uint8_t map[MAX_N / 8];
+    uint8_t map[MAX_N / 8], pairs[4 * MAX_PAIRS];
     int16_t soft[MAX_N];
-    struct reference_job job = reference_read_job(r->bytes, r->len, map, sizeof map, soft, MAX_N);
+    struct reference_job job = reference_read_job(r->bytes, r->len, map, sizeof map, soft, MAX_N, pairs, sizeof pairs);
     size_t n = (size_t)1 << job.m;
     if (job.refusal) {
         printf("refused %u\n", (unsigned)job.refusal);
         return;
     }
     struct paper_decoded block =
-        paper_decode(job.m, map, (n + 7) / 8, job.list_size, job.stop, soft, n, numbers,
+        paper_decode(job.m, map, (n + 7) / 8, pairs, 4 * job.pairs, job.list_size, job.stop, soft, n, numbers,
                      sizeof numbers / sizeof numbers[0], bytes, sizeof bytes, inputs, sizeof inputs, words,
                      sizeof words, scores, MAX_LIST);
     if (block.refusal) {

@@ -188,13 +188,24 @@ static void keep_best(size_t n, const int16_t *soft, struct list *from, size_t l
         to->dropped = larger(to->dropped, from->score[order[r]]);
 }
 
-/* to gets every prefix of from with one more bit: 0 at a frozen position, else both. */
-static void extend(const struct list *from, size_t at, int frozen, struct list *to)
+/* A code of n positions. */
+struct code {
+    size_t n;
+    const uint8_t *map, *pairs;
+    size_t pairs_len;
+};
+
+/* to gets every prefix of from with one more bit: at a frozen position the sum of its own
+ * bits that the pairs give, else both. */
+static void extend(const struct code *code, const struct list *from, size_t at, struct list *to)
 {
     to->count = 0;
     to->dropped = from->dropped;
     for (size_t r = 0; r < from->count; r++) {
-        for (uint8_t bit = 0; bit < (frozen ? 1 : 2); bit++) {
+        uint8_t first = 0, last = 1;
+        if (reference_frozen(code->map, at))
+            first = last = reference_frozen_bit(code->pairs, code->pairs_len, at, from->bits[r]);
+        for (uint8_t bit = first; bit <= last; bit++) {
             memcpy(to->bits[to->count], from->bits[r], at);
             to->bits[to->count++][at] = bit;
         }
@@ -203,35 +214,31 @@ static void extend(const struct list *from, size_t at, int frozen, struct list *
 
 /* The order of prefixes hangs on nothing but themselves, so it is needed only where
  * some are left out, and at the end. */
-static const struct list *live_after(size_t n, const int16_t *soft, const uint8_t *map, size_t list_size,
-                                     size_t stop)
+static const struct list *live_after(const struct code *code, const int16_t *soft, size_t list_size, size_t stop)
 {
     static struct list space[2];
     struct list *live = &space[0], *other = &space[1];
     live->count = 1;
     live->dropped = INT32_MIN;
     for (size_t at = 0; at < stop; at++) {
-        extend(live, at, reference_frozen(map, at), other);
+        extend(code, live, at, other);
         if (other->count > list_size) {
-            keep_best(n, soft, other, at + 1, list_size, live);
+            keep_best(code->n, soft, other, at + 1, list_size, live);
         } else {
             struct list *children = other;
             other = live;
             live = children;
         }
     }
-    keep_best(n, soft, live, stop, list_size, other);
+    keep_best(code->n, soft, live, stop, list_size, other);
     return other;
 }
 
 /* ---- the call */
 
-static uint32_t decoder_refusal(uint32_t m, const uint8_t *map, size_t map_len, uint32_t list_size, uint32_t stop,
-                                const int16_t *soft, size_t soft_len)
+/* 4 to 7 */
+static uint32_t run_refusal(uint32_t m, uint32_t list_size, uint32_t stop, const int16_t *soft, size_t soft_len)
 {
-    uint32_t refusal = reference_code_refusal(m, map, map_len);
-    if (refusal != 0)
-        return refusal;
     if (list_size < 1 || list_size > PAPER_MAX_LIST)
         return 4;
     if (stop > (uint32_t)1 << m)
@@ -250,6 +257,7 @@ static struct paper_decoded refused(uint32_t refusal)
 }
 
 struct paper_decoded paper_decode(uint32_t m, const uint8_t *map, size_t map_len,
+                                  const uint8_t *pairs, size_t pairs_len,
                                   uint32_t list_size, uint32_t stop,
                                   const int16_t *soft, size_t soft_len,
                                   uint32_t *numbers, size_t numbers_len,
@@ -258,7 +266,9 @@ struct paper_decoded paper_decode(uint32_t m, const uint8_t *map, size_t map_len
                                   uint8_t *words, size_t words_len,
                                   int32_t *scores, size_t scores_len)
 {
-    uint32_t refusal = decoder_refusal(m, map, map_len, list_size, stop, soft, soft_len);
+    uint32_t refusal = reference_code_refusal(m, map, map_len, pairs, pairs_len);
+    if (refusal == 0)
+        refusal = run_refusal(m, list_size, stop, soft, soft_len);
     if (refusal != 0)
         return refused(refusal);
     size_t n = (size_t)1 << m, l = list_size;
@@ -271,7 +281,8 @@ struct paper_decoded paper_decode(uint32_t m, const uint8_t *map, size_t map_len
     int16_t taken[MAX_N];
     for (size_t i = 0; i < n; i++)
         taken[i] = paper_taken(soft[i]);
-    const struct list *rows = live_after(n, taken, map, l, stop);
+    const struct code code = {n, map, pairs, pairs_len};
+    const struct list *rows = live_after(&code, taken, l, stop);
     memset(numbers, 0, numbers_len * sizeof numbers[0]);
     memset(bytes, 0, bytes_len);
     memset(inputs, 0, inputs_len);

@@ -33,6 +33,7 @@ struct paper_decoded {
 
 /* Takes and answers what caldurrex_decode does. */
 struct paper_decoded paper_decode(uint32_t m, const uint8_t *map, size_t map_len,
+                                  const uint8_t *pairs, size_t pairs_len,
                                   uint32_t list_size, uint32_t stop,
                                   const int16_t *soft, size_t soft_len,
                                   uint32_t *numbers, size_t numbers_len,

@@ -44,7 +44,58 @@ size_t reference_clear(const uint8_t *map, size_t n)
     return k;
 }
 
-uint32_t reference_code_refusal(uint32_t m, const uint8_t *map, size_t map_len)
+/* ---- pairs */
+
+struct reference_pair reference_pair_at(const uint8_t *pairs, size_t j)
+{
+    const uint8_t *at = pairs + REFERENCE_PAIR_BYTES * j;
+    return (struct reference_pair){at[0] + 256u * at[1], at[2] + 256u * at[3]};
+}
+
+uint8_t reference_frozen_bit(const uint8_t *pairs, size_t pairs_len, size_t i, const uint8_t *u)
+{
+    unsigned sum = 0;
+    for (size_t j = 0; j < pairs_len / REFERENCE_PAIR_BYTES; j++) {
+        struct reference_pair pair = reference_pair_at(pairs, j);
+        if (pair.f == i)
+            sum += u[pair.e];
+    }
+    return sum % 2;
+}
+
+void reference_input(size_t n, const uint8_t *map, const uint8_t *pairs, size_t pairs_len,
+                     const uint8_t *payload, uint8_t *u)
+{
+    size_t taken = 0;
+    for (size_t i = 0; i < n; i++)
+        u[i] = reference_frozen(map, i) ? reference_frozen_bit(pairs, pairs_len, i, u) : payload[taken++];
+}
+
+/* Strictly rising by f, then by e. */
+static int rises(struct reference_pair from, struct reference_pair to)
+{
+    return from.f < to.f || (from.f == to.f && from.e < to.e);
+}
+
+static int good_pairs(size_t n, const uint8_t *map, const uint8_t *pairs, size_t pairs_len)
+{
+    size_t count = pairs_len / REFERENCE_PAIR_BYTES;
+    if (pairs_len % REFERENCE_PAIR_BYTES != 0 || count > REFERENCE_MAX_PAIRS)
+        return 0;
+    for (size_t j = 0; j < count; j++) {
+        struct reference_pair pair = reference_pair_at(pairs, j);
+        if (pair.f >= n || !reference_frozen(map, pair.f) || pair.e >= pair.f)
+            return 0;
+        if (j > 0 && !rises(reference_pair_at(pairs, j - 1), pair))
+            return 0;
+    }
+    return 1;
+}
+
+/* ---- the code */
+
+uint32_t reference_code_refusal(uint32_t m, const uint8_t *map, size_t map_len,
+                                const uint8_t *pairs, size_t pairs_len)
 {
     if (m < 2 || m > REFERENCE_MAX_M)
         return 1;
@@ -54,7 +105,7 @@ uint32_t reference_code_refusal(uint32_t m, const uint8_t *map, size_t map_len)
     for (size_t i = n; i < 8 * map_len; i++)
         if (reference_frozen(map, i))
             return 3;
-    return 0;
+    return good_pairs(n, map, pairs, pairs_len) ? 0 : 15;
 }
 
 static int all_bits(const uint8_t *bytes, size_t len)
@@ -68,10 +119,11 @@ static int all_bits(const uint8_t *bytes, size_t len)
 /* ---- the encoder */
 
 uint32_t reference_encode(uint32_t m, const uint8_t *map, size_t map_len,
+                          const uint8_t *pairs, size_t pairs_len,
                           const uint8_t *payload, size_t payload_len,
                           uint8_t *word, size_t word_len)
 {
-    uint32_t refusal = reference_code_refusal(m, map, map_len);
+    uint32_t refusal = reference_code_refusal(m, map, map_len, pairs, pairs_len);
     if (refusal != 0)
         return refusal;
     size_t n = (size_t)1 << m;
@@ -82,9 +134,7 @@ uint32_t reference_encode(uint32_t m, const uint8_t *map, size_t map_len,
     if (word_len < n)
         return 10;
     uint8_t u[MAX_N];
-    size_t taken = 0;
-    for (size_t i = 0; i < n; i++)
-        u[i] = reference_frozen(map, i) ? 0 : payload[taken++];
+    reference_input(n, map, pairs, pairs_len, payload, u);
     memset(word, 0, word_len);
     reference_transform(n, u, word);
     return 0;
@@ -166,22 +216,25 @@ static void work_out_inverse(uint32_t m)
     have_inverse[m] = 1;
 }
 
-/* u gets the input, as packed bits, whose transform is the word. */
-static void input_of(uint32_t m, const uint8_t *word, uint64_t u[LIMBS])
+/* u gets the input whose transform is the word. */
+static void input_of(uint32_t m, const uint8_t *word, uint8_t *u)
 {
     if (!have_inverse[m])
         work_out_inverse(m);
-    memset(u, 0, LIMBS * sizeof u[0]);
+    uint64_t sum[LIMBS] = {0};
     for (size_t j = 0; j < (size_t)1 << m; j++)
         if (word[j])
-            add_row(u, inverse[m][j]);
+            add_row(sum, inverse[m][j]);
+    for (size_t i = 0; i < (size_t)1 << m; i++)
+        u[i] = (uint8_t)bit_of(sum, i);
 }
 
 uint32_t reference_extract(uint32_t m, const uint8_t *map, size_t map_len,
+                           const uint8_t *pairs, size_t pairs_len,
                            const uint8_t *word, size_t word_len,
                            uint8_t *payload, size_t payload_len)
 {
-    uint32_t refusal = reference_code_refusal(m, map, map_len);
+    uint32_t refusal = reference_code_refusal(m, map, map_len, pairs, pairs_len);
     if (refusal != 0)
         return refusal;
     size_t n = (size_t)1 << m;
@@ -189,17 +242,17 @@ uint32_t reference_extract(uint32_t m, const uint8_t *map, size_t map_len,
         return 6;
     if (!all_bits(word, n))
         return 11;
-    uint64_t u[LIMBS];
+    uint8_t u[MAX_N];
     input_of(m, word, u);
     for (size_t i = 0; i < n; i++)
-        if (reference_frozen(map, i) && bit_of(u, i))
+        if (reference_frozen(map, i) && u[i] != reference_frozen_bit(pairs, pairs_len, i, u))
             return 12;
     if (payload_len < reference_clear(map, n))
         return 10;
     size_t given = 0;
     for (size_t i = 0; i < n; i++)
         if (!reference_frozen(map, i))
-            payload[given++] = (uint8_t)bit_of(u, i);
+            payload[given++] = u[i];
     memset(payload + given, 0, payload_len - given);
     return 0;
 }

@@ -7,7 +7,7 @@
 #include <string.h>
 
 /* The bits of a record's first byte. */
-enum { HAS_LIST_SIZE = 1, HAS_STOP = 2, HAS_FRAME = 4, NO_FIELDS = 0xf8 };
+enum { HAS_LIST_SIZE = 1, HAS_STOP = 2, HAS_FRAME = 4, HAS_PAIRS = 8, NO_FIELDS = 0xf0 };
 
 /* The next number of count bytes, low byte first; at goes behind it. */
 static uint32_t take(const uint8_t **at, size_t count)
@@ -21,7 +21,8 @@ static uint32_t take(const uint8_t **at, size_t count)
 
 /* ---- the reader */
 
-/* The refusals that look at no more than the first two bytes and the length. */
+/* The refusals that look at no more than the first two bytes, the number of pairs and the
+ * length. */
 static uint32_t shape_refusal(const uint8_t *record, size_t len)
 {
     if (len == 0)
@@ -36,15 +37,25 @@ static uint32_t shape_refusal(const uint8_t *record, size_t len)
     need += record[0] & HAS_LIST_SIZE ? 1 : 0;
     need += record[0] & HAS_STOP ? 2 : 0;
     need += record[0] & HAS_FRAME ? 4 : 0;
-    need += (n + 7) / 8 + 2 * n;
-    return len == need ? 0 : 13;
+    need += (n + 7) / 8;
+    if (record[0] & HAS_PAIRS) {
+        const uint8_t *at = record + need;
+        need += 2;
+        if (len < need)
+            return 13;
+        uint32_t count = take(&at, 2);
+        if (count > REFERENCE_MAX_PAIRS)
+            return 15;
+        need += REFERENCE_PAIR_BYTES * count;
+    }
+    return len == need + 2 * n ? 0 : 13;
 }
 
 /* A record of the right length taken apart; its fields may be out of range. */
 struct parts {
     struct reference_job job;
-    size_t n, map_len;
-    const uint8_t *map;
+    size_t n, map_len, pairs_len;
+    const uint8_t *map, *pairs;
     int16_t soft[REFERENCE_MAX_N];
 };
 
@@ -61,6 +72,10 @@ static void take_apart(const uint8_t *record, struct parts *p)
     p->map = at;
     p->map_len = (p->n + 7) / 8;
     at += p->map_len;
+    p->job.pairs = fields & HAS_PAIRS ? take(&at, 2) : 0;
+    p->pairs = at;
+    p->pairs_len = REFERENCE_PAIR_BYTES * p->job.pairs;
+    at += p->pairs_len;
     for (size_t i = 0; i < p->n; i++) {
         int32_t bits = (int32_t)take(&at, 2);
         p->soft[i] = (int16_t)(bits < 32768 ? bits : bits - 65536);
@@ -69,8 +84,9 @@ static void take_apart(const uint8_t *record, struct parts *p)
 
 static uint32_t value_refusal(const struct parts *p)
 {
-    if (reference_code_refusal(p->job.m, p->map, p->map_len) != 0)
-        return 3; /* m and the map's length are right */
+    uint32_t refusal = reference_code_refusal(p->job.m, p->map, p->map_len, p->pairs, p->pairs_len);
+    if (refusal != 0)
+        return refusal; /* 3 or 15: m and the map's length are right */
     if (p->job.list_size < 1 || p->job.list_size > PAPER_MAX_LIST)
         return 4;
     if (p->job.stop > p->n)
@@ -83,7 +99,8 @@ static uint32_t value_refusal(const struct parts *p)
 
 struct reference_job reference_read_job(const uint8_t *record, size_t len,
                                         uint8_t *map, size_t map_len,
-                                        int16_t *soft, size_t soft_len)
+                                        int16_t *soft, size_t soft_len,
+                                        uint8_t *pairs, size_t pairs_len)
 {
     struct parts p;
     struct reference_job refused = {.refusal = shape_refusal(record, len)};
@@ -91,13 +108,15 @@ struct reference_job reference_read_job(const uint8_t *record, size_t len,
         return refused;
     take_apart(record, &p);
     refused.refusal = value_refusal(&p);
-    if (refused.refusal == 0 && (map_len < p.map_len || soft_len < p.n))
+    if (refused.refusal == 0 && (map_len < p.map_len || soft_len < p.n || pairs_len < p.pairs_len))
         refused.refusal = 10;
     if (refused.refusal != 0)
         return refused;
     memset(map, 0, map_len);
     memset(soft, 0, soft_len * sizeof soft[0]);
+    memset(pairs, 0, pairs_len);
     memcpy(map, p.map, p.map_len);
+    memcpy(pairs, p.pairs, p.pairs_len);
     for (size_t i = 0; i < p.n; i++)
         soft[i] = paper_taken(p.soft[i]);
     return p.job;
@@ -115,15 +134,17 @@ static size_t put_bits(char *out, size_t n, const uint8_t *bits)
 }
 
 /* What is printed for a good record that the program's tables serve. */
-static size_t put_rows(const struct reference_job *job, const uint8_t *map, const int16_t *soft, char *out)
+static size_t put_rows(const struct reference_job *job, const uint8_t *map, const uint8_t *pairs, const int16_t *soft,
+                       char *out)
 {
     static uint32_t numbers[32 * N * L];
     static uint8_t bytes[(4 * N + 256) * L], inputs[N * L], words[N * L];
     static int32_t scores[L];
     size_t n = (size_t)1 << job->m, at = 0;
     struct paper_decoded block =
-        paper_decode(job->m, map, (n + 7) / 8, job->list_size, job->stop, soft, n, numbers, 32 * N * L, bytes,
-                     sizeof bytes, inputs, sizeof inputs, words, sizeof words, scores, L);
+        paper_decode(job->m, map, (n + 7) / 8, pairs, REFERENCE_PAIR_BYTES * job->pairs, job->list_size, job->stop,
+                     soft, n, numbers, 32 * N * L, bytes, sizeof bytes, inputs, sizeof inputs, words, sizeof words,
+                     scores, L);
     at += (size_t)sprintf(out + at, "frame %lu rows %lu ceiling %ld\n", (unsigned long)job->frame,
                           (unsigned long)block.rows, (long)block.ceiling);
     for (size_t r = 0; r < block.rows; r++) {
@@ -139,14 +160,14 @@ static size_t put_rows(const struct reference_job *job, const uint8_t *map, cons
 
 size_t reference_output(const uint8_t *record, size_t len, char *out)
 {
-    static uint8_t map[REFERENCE_MAX_N / 8];
+    static uint8_t map[REFERENCE_MAX_N / 8], pairs[REFERENCE_PAIR_BYTES * REFERENCE_MAX_PAIRS];
     static int16_t soft[REFERENCE_MAX_N];
     struct reference_job job = {.refusal = 13};
     if (len <= PROGRAM_MAX_INPUT)
-        job = reference_read_job(record, len, map, sizeof map, soft, REFERENCE_MAX_N);
+        job = reference_read_job(record, len, map, sizeof map, soft, REFERENCE_MAX_N, pairs, sizeof pairs);
     if (job.refusal == 0 && ((size_t)1 << job.m > PROGRAM_MAX_N || job.list_size > PROGRAM_MAX_LIST))
         job.refusal = 8;
     if (job.refusal != 0)
         return (size_t)sprintf(out, "refused %lu\n", (unsigned long)job.refusal);
-    return put_rows(&job, map, soft, out);
+    return put_rows(&job, map, pairs, soft, out);
 }

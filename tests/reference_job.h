@@ -9,15 +9,16 @@
 #include <stddef.h>
 #include <stdint.h>
 
-/* 0 and the fields, or the refusal number and 0 in each field. */
+/* 0 and the fields, the number of pairs last, or the refusal number and 0 in each field. */
 struct reference_job {
-    uint32_t refusal, m, list_size, stop, frame;
+    uint32_t refusal, m, list_size, stop, frame, pairs;
 };
 
 /* Takes and answers what caldurrex_read_job does. */
 struct reference_job reference_read_job(const uint8_t *record, size_t len,
                                         uint8_t *map, size_t map_len,
-                                        int16_t *soft, size_t soft_len);
+                                        int16_t *soft, size_t soft_len,
+                                        uint8_t *pairs, size_t pairs_len);
 
 /* The program takes no longer input, and serves no larger n and no larger list. */
 enum { PROGRAM_MAX_INPUT = 4096, PROGRAM_MAX_N = 64, PROGRAM_MAX_LIST = 4 };

@@ -48,11 +48,12 @@ fn write_decoded(
     p: u32,
     frame: u32,
     map: &[u8],
+    pairs: &[u8],
     soft: &[i16],
     out: &mut [u8],
 ) -> usize
     requires { ⌜ (n ≡ 2 ^ m) × (n ≤ 64) × (l ≤ 4) × (665 ≤ length (now out)) ⌝ }
-    ensures { λ r. ⌜ Begins (decodedText (code m (now (map .entry))) l p frame (now (soft .entry))) (now (out .entry)) r (now (out .exit)) ⌝ }
+    ensures { λ r. ⌜ Begins (decodedText (code m (now (map .entry)) (now (pairs .entry))) l p frame (now (soft .entry))) (now (out .entry)) r (now (out .exit)) ⌝ }
 {
     let mut numbers = [0u32; 8192];
     let mut bytes = [0u8; 2048];
@@ -62,6 +63,7 @@ fn write_decoded(
     let decoded = decode(
         m,
         map,
+        pairs,
         l,
         p,
         soft,
@@ -74,18 +76,20 @@ fn write_decoded(
     write_answer(decoded, frame, n, &inputs, &words, &scores, out)
 }
 
-// The frozen map and the soft values stand at the front of their slices.
+// The frozen map, `count` pairs and the soft values stand at the front of their slices.
 pub fn write_block(
     m: u32,
     l: u32,
     p: u32,
     frame: u32,
+    count: u32,
     map: &[u8],
+    pairs: &[u8],
     soft: &[i16],
     out: &mut [u8],
 ) -> usize
-    requires { ⌜ (m ≤ 10) × (length (now map) ≡ 128) × (length (now soft) ≡ 1024) × (665 ≤ length (now out)) ⌝ }
-    ensures { λ r. ⌜ Begins (blockText m l p frame (now (map .entry)) (now (soft .entry))) (now (out .entry)) r (now (out .exit)) ⌝ }
+    requires { ⌜ (m ≤ 10) × (count ≤ 256) × (length (now map) ≡ 128) × (length (now pairs) ≡ 1024) × (length (now soft) ≡ 1024) × (665 ≤ length (now out)) ⌝ }
+    ensures { λ r. ⌜ Begins (blockText m l p frame count (now (map .entry)) (now (pairs .entry)) (now (soft .entry))) (now (out .entry)) r (now (out .exit)) ⌝ }
 {
     let n = size(m);
     if n > 64 {
@@ -95,5 +99,6 @@ pub fn write_block(
         return write_refused(8, out);
     }
     let k = (n + 7) / 8;
-    write_decoded(m, n, l, p, frame, &map[..k], &soft[..n], out)
+    let q = 4 * (count as usize);
+    write_decoded(m, n, l, p, frame, &map[..k], &pairs[..q], &soft[..n], out)
 }

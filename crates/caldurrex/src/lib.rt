@@ -11,25 +11,38 @@ ghost use Rattle.job.specs.Answer.{hostReading, forHost};
 ghost use Rattle.caldurrex.specs.Fields.{returned, asReturned};
 
 #[no_mangle]
-pub extern "C" fn caldurrex_encode(m: u32, map: &[u8], payload: &[u8], word: &mut [u8]) -> u32
+pub extern "C" fn caldurrex_encode(
+    m: u32,
+    map: &[u8],
+    pairs: &[u8],
+    payload: &[u8],
+    word: &mut [u8],
+) -> u32
     ensures { λ r. ⌜ written r (now (word .exit))
-        ≡ encodeOutcome (code m (now (map .entry))) (now (payload .entry)) (now (word .entry)) ⌝ }
+        ≡ encodeOutcome (code m (now (map .entry)) (now (pairs .entry))) (now (payload .entry)) (now (word .entry)) ⌝ }
 {
-    encoder::encode(m, map, payload, word)
+    encoder::encode(m, map, pairs, payload, word)
 }
 
 #[no_mangle]
-pub extern "C" fn caldurrex_extract(m: u32, map: &[u8], word: &[u8], payload: &mut [u8]) -> u32
+pub extern "C" fn caldurrex_extract(
+    m: u32,
+    map: &[u8],
+    pairs: &[u8],
+    word: &[u8],
+    payload: &mut [u8],
+) -> u32
     ensures { λ r. ⌜ written r (now (payload .exit))
-        ≡ extractOutcome (code m (now (map .entry))) (now (word .entry)) (now (payload .entry)) ⌝ }
+        ≡ extractOutcome (code m (now (map .entry)) (now (pairs .entry))) (now (word .entry)) (now (payload .entry)) ⌝ }
 {
-    extractor::extract(m, map, word, payload)
+    extractor::extract(m, map, pairs, word, payload)
 }
 
 #[no_mangle]
 pub extern "C" fn caldurrex_decode(
     m: u32,
     map: &[u8],
+    pairs: &[u8],
     list: u32,
     stop: u32,
     soft: &[i16],
@@ -40,11 +53,12 @@ pub extern "C" fn caldurrex_decode(
     scores: &mut [i32],
 ) -> DecodedFields
     ensures { λ r. ⌜ returned r (lent (now (numbers .exit)) (now (bytes .exit)) (now (inputs .exit)) (now (words .exit)) (now (scores .exit)))
-        ≡ asReturned (decodeOutcome (code m (now (map .entry))) list stop (now (soft .entry)) (lent (now (numbers .entry)) (now (bytes .entry)) (now (inputs .entry)) (now (words .entry)) (now (scores .entry)))) ⌝ }
+        ≡ asReturned (decodeOutcome (code m (now (map .entry)) (now (pairs .entry))) list stop (now (soft .entry)) (lent (now (numbers .entry)) (now (bytes .entry)) (now (inputs .entry)) (now (words .entry)) (now (scores .entry)))) ⌝ }
 {
     let d = decoder::decode(
         m,
         map,
+        pairs,
         list,
         stop,
         soft,
@@ -58,9 +72,14 @@ pub extern "C" fn caldurrex_decode(
 }
 
 #[no_mangle]
-pub extern "C" fn caldurrex_read_job(bytes: &[u8], map: &mut [u8], soft: &mut [i16]) -> JobFields
-    ensures { λ r. ⌜ hostReading r (now (map .exit)) (now (soft .exit))
-        ≡ forHost (readOutcome (now (bytes .entry)) (now (map .entry)) (now (soft .entry))) ⌝ }
+pub extern "C" fn caldurrex_read_job(
+    bytes: &[u8],
+    map: &mut [u8],
+    soft: &mut [i16],
+    pairs: &mut [u8],
+) -> JobFields
+    ensures { λ r. ⌜ hostReading r (now (map .exit)) (now (soft .exit)) (now (pairs .exit))
+        ≡ forHost (readOutcome (now (bytes .entry)) (now (map .entry)) (now (soft .entry)) (now (pairs .entry))) ⌝ }
 {
-    job::read_job_fields(bytes, map, soft)
+    job::read_job_fields(bytes, map, soft, pairs)
 }

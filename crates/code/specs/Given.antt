@@ -1,4 +1,4 @@
--- The refusals 1, 2, 3, 6 and 11: of a code and of what is given with it, which must be n bits.
+-- The refusals 1, 2, 3, 15, 6 and 11: of a code and of what is given with it, which must be n bits.
 use mathlib.Core.Path.{_≡_, ap}
 use mathlib.Core.List.{List, [], _∷_, _++_}
 use Prim.Native.Nat.{ℕ, _^_}
@@ -12,9 +12,9 @@ use Rattle.laws.specs.MapBits.{flagsOf, no-above, bits-not-above}
 use Rattle.laws.specs.Accepted.{Accepted, accepted-of, no-fault}
 
 -- the flags that a loop over n positions reads
-pub flags-are : (m n : ℕ) (map : List ℕ) → n ≡ 2 ^ m → flagsOf n map ≡ frozen (code m map)
+pub flags-are : (m n : ℕ) (map pairs : List ℕ) → n ≡ 2 ^ m → flagsOf n map ≡ frozen (code m map pairs)
 unfolding frozen
-flags-are m n map e = ap (λ (k : ℕ). flagsOf k map) e
+flags-are m n map pairs e = ap (λ (k : ℕ). flagsOf k map) e
 
 abbrev pub bitFaults : ℕ → List ℕ → List Fault
 bitFaults n given = lengthFault n (length given) ∷ bitFault given ∷ []
@@ -28,10 +28,10 @@ pub record Given (c : Code) (n : ℕ) (given : List ℕ) : Type 0 where
   pub bits : Bits given
 
 abbrev pub code-numbers : (c : Code) → Numbered (codeFaults c)
-code-numbers c = next (next (next end))
+code-numbers c = next (next (next (next (next (next end)))))
 
 abbrev pub given-numbers : (c : Code) (n : ℕ) (given : List ℕ) → Numbered (givenFaults c n given)
-given-numbers c n given = next (next (next (next (next end))))
+given-numbers c n given = next (next (next (next (next (next (next (next end)))))))
 
 module _ {c : Code} {n : ℕ} {given : List ℕ} where
   given-parts : First (codeFaults c) 0 → First (bitFaults n given) 0 → Given c n given

@@ -1,11 +1,13 @@
 // k, the number of clear positions: the ones of the map are counted and taken off n.
+ghost use mathlib.Core.Bool.{false};
+ghost use mathlib.Core.List.{List};
 ghost use mathlib.Core.Path.{_≡_};
-ghost use Prim.Native.Nat.{_+_, _*_, _≤_};
+ghost use Prim.Native.Nat.{ℕ, _+_, _*_, _^_, _≤_};
 ghost use lib.Count.{ones};
 ghost use lib.ListN.{length};
 ghost use Rattle.spec.specs.Bits.{unpacked};
-ghost use Rattle.spec.specs.Code.{code, clear, payloadSize};
-ghost use Rattle.laws.specs.Accepted.{Accepted};
+ghost use Rattle.spec.specs.Code.{code, mapBytes, clear, payloadSize};
+ghost use Rattle.spec.specs.Refusals.{pastEnd};
 use crate::shape::size;
 
 fn ones_of(x: u8) -> usize
@@ -28,10 +30,10 @@ fn count_frozen(map: &[u8]) -> usize
     k
 }
 
-// k
+// k, whatever the pairs are.
 pub fn payload_size(m: u32, map: &[u8]) -> usize
-    requires { ⌜ Accepted (code m (now map)) ⌝ }
-    ensures { λ r. ⌜ r ≡ payloadSize (code m (now (map .entry))) ⌝ }
+    requires { ⌜ (m ≤ 10) × (length (now map) ≡ mapBytes (2 ^ m)) × (pastEnd (2 ^ m) (now map) ≡ false) ⌝ }
+    ensures { λ r. ⌜ ((pairs : List ℕ) → r ≡ payloadSize (code m (now (map .entry)) pairs)) ⌝ }
 {
     let n = size(m);
     let frozen = count_frozen(map);

@@ -1,4 +1,5 @@
-// n, and the refusals 1 to 3 of a code.
+// n, and the refusals 1 to 3 and 15 of a code.
+use crate::pairs::pairs_refused;
 ghost use mathlib.Core.Path.{_≡_};
 ghost use Prim.Native.Nat.{_^_, _≤_};
 ghost use lib.ListN.{length};
@@ -25,9 +26,9 @@ fn past_end(m: u32, map: &[u8]) -> bool
     false
 }
 
-// Refusals 1 to 3, or 0.
-pub fn code_refusal(m: u32, map: &[u8]) -> u32
-    ensures { λ r. ⌜ r ≡ first (codeFaults (code m (now (map .entry)))) ⌝ }
+// Refusals 1 to 3 and 15, or 0.
+pub fn code_refusal(m: u32, map: &[u8], pairs: &[u8]) -> u32
+    ensures { λ r. ⌜ r ≡ first (codeFaults (code m (now (map .entry)) (now (pairs .entry)))) ⌝ }
 {
     if m < 2 {
         return 1;
@@ -39,8 +40,13 @@ pub fn code_refusal(m: u32, map: &[u8]) -> u32
     if map.len() != (n + 7) / 8 {
         return 2;
     }
-    if past_end(m, map) {
+    let past = past_end(m, map);
+    let wrong = pairs_refused(n, map, pairs);
+    if past {
         return 3;
+    }
+    if wrong {
+        return 15;
     }
     0
 }

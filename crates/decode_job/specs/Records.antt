@@ -1,5 +1,5 @@
 -- What is written for a record, by what the reader makes of it.
-use mathlib.Core.Path.{_≡_, refl, sym, ap, ap₂, _∙_}
+use mathlib.Core.Path.{_≡_, refl, sym, ap, _∙_}
 use mathlib.Core.List.{List, _++_}
 use Prim.Native.Nat.{ℕ, zero, suc, _+_, _*_, _≤_, _<_}
 use native.Mathlib.Omega.{arith}
@@ -10,21 +10,21 @@ use Rattle.spec.specs.Code.{codeTransform}
 use Rattle.spec.specs.Score.{taken}
 use Rattle.spec.specs.Decoder.{rows, ceiling}
 use Rattle.spec.specs.Faults.{first, settled}
-use Rattle.spec.specs.Record.{positions, exponent, listSize, stopPosition, frameNumber, recordMap, recordSoft, shapeFaults, fieldFaults}
+use Rattle.spec.specs.Record.{positions, exponent, listSize, stopPosition, frameNumber, recordMap, pairCount, recordPairs, recordCode, recordSoft, shapeFaults, fieldFaults}
 use Rattle.spec.specs.Refusals.{tableFaults}
 use Rattle.spec.specs.Outcome.{job, refusedJob, Job, Reading, reading, padded, readRefusal, readServed, readOutcome, decodeRefusal}
 use Rattle.laws.specs.FirstFault.{First, none, later, of-first, is-first, first-before, first-after, Numbered, end, next, settled-refused, settled-served}
 use Rattle.laws.specs.Taken.{taken-twice}
-use Rattle.job.specs.HandedOut.{map-at-front, soft-at-front, block-refusal}
+use Rattle.job.specs.HandedOut.{map-at-front, pairs-at-front, soft-at-front, block-refusal}
 use Rattle.row_text.specs.Output.{refusedText}
 use Rattle.row_text.specs.RowsText.{textOf}
-use Rattle.decode_job.specs.ProgramOutput.{recordFaults, recordCode, recordRows, recordCeiling, programOutput}
+use Rattle.decode_job.specs.ProgramOutput.{recordFaults, recordRows, recordCeiling, programOutput}
 use Rattle.block_output.specs.Block.{limitFaults, blockRoom, decodedText, blockText, tables-fit}
 
 -- what is written for the reader's answer and what it leaves
-abbrev textFor : Job → List ℕ → List ℤ → List ℕ
-textFor (job m l p f) map soft = blockText m l p f map soft
-textFor (refusedJob k) map soft = refusedText k
+abbrev textFor : Job → List ℕ → List ℤ → List ℕ → List ℕ
+textFor (job m l p f k) map soft pairs = blockText m l p f k map pairs soft
+textFor (refusedJob k) map soft pairs = refusedText k
 
 -- the output for an input that is not too long
 unfoldable pub recordOutput : List ℕ → List ℕ
@@ -40,10 +40,10 @@ not-too-long s h = rw (le-ltb 4096 (length s) h)
 
 module _ (s : List ℕ) where
   abbrev reader : ℕ
-  reader = readRefusal s 128 1024
+  reader = readRefusal s 128 1024 1024
 
-  reader-numbers : Numbered (shapeFaults s ++ fieldFaults s 128 1024)
-  reader-numbers = next (next (next (next (next (next (next (next (next (next (next end))))))))))
+  reader-numbers : Numbered (shapeFaults s ++ fieldFaults s 128 1024 1024)
+  reader-numbers = next (next (next (next (next (next (next (next (next (next (next (next (next (next (next (next (next end))))))))))))))))
 
   -- the block that the reader hands out
   abbrev handed : List ℤ
@@ -52,7 +52,7 @@ module _ (s : List ℕ) where
   -- if the program's tables can hold it, the decoder does not refuse it
   decoder-accepts : 0 ≡ reader → 0 ≡ first (limitFaults (positions s) (listSize s))
       → 0 ≡ decodeRefusal (recordCode s) (listSize s) (stopPosition s) handed blockRoom
-  decoder-accepts e g = within (of-first (limitFaults (positions s) (listSize s)) 0 g) ∙ block-refusal s 128 1024 e blockRoom
+  decoder-accepts e g = within (of-first (limitFaults (positions s) (listSize s)) 0 g) ∙ block-refusal s 128 1024 1024 e blockRoom
     where
       within : First (limitFaults (positions s) (listSize s)) 0 → 0 ≡ first (tableFaults (positions s) (listSize s) blockRoom)
       within (later n (later k none)) =
@@ -70,7 +70,7 @@ module _ (s : List ℕ) where
   tables-decide : 0 ≡ reader → first (limitFaults (positions s) (listSize s)) ≡ first (recordFaults s)
   unfolding readRefusal
   tables-decide e =
-      first-after (shapeFaults s ++ fieldFaults s 128 1024) (limitFaults (positions s) (listSize s)) 0 e reader-numbers refl (first (limitFaults (positions s) (listSize s))) refl
+      first-after (shapeFaults s ++ fieldFaults s 128 1024 1024) (limitFaults (positions s) (listSize s)) 0 e reader-numbers refl (first (limitFaults (positions s) (listSize s))) refl
 
   good-record : 0 ≡ reader
       → settled (first (limitFaults (positions s) (listSize s))) refusedText (decodedText (recordCode s) (listSize s) (stopPosition s) (frameNumber s) handed) ≡ recordOutput s
@@ -90,26 +90,26 @@ module _ (s : List ℕ) where
       by-number zero g = sym (settled-served refusedText (text (taken handed)) _ (decoder-accepts e g)) ∙ ap text (taken-twice (recordSoft s))
       by-number (suc t) g = refl
 
-  -- the map and the soft values at the front of slices are those of the record
-  front : 0 ≡ reader → (a b : ℕ)
-      → blockText (exponent s) (listSize s) (stopPosition s) (frameNumber s) (padded 0 a (recordMap s)) (padded (pos 0) b handed)
+  -- the map, the pairs and the soft values at the front of slices are those of the record
+  front : 0 ≡ reader → (a b c : ℕ)
+      → blockText (exponent s) (listSize s) (stopPosition s) (frameNumber s) (pairCount s) (padded 0 a (recordMap s)) (padded 0 c (recordPairs s)) (padded (pos 0) b handed)
       ≡ settled (first (limitFaults (positions s) (listSize s))) refusedText (decodedText (recordCode s) (listSize s) (stopPosition s) (frameNumber s) handed)
   unfolding blockText
-  front e a b = rw (map-at-front s 128 1024 e a, soft-at-front s 128 1024 e b)
+  front e a b c = rw (map-at-front s 128 1024 1024 e a, pairs-at-front s 128 1024 1024 e c, soft-at-front s 128 1024 1024 e b)
 
   -- the reader's slices, which have room for every record, and what it leaves in them
-  module _ (map map′ : List ℕ) (soft soft′ : List ℤ) (maps : length map ≡ 128) (softs : length soft ≡ 1024) where
-    reader-is : readRefusal s (length map) (length soft) ≡ reader
-    reader-is = ap₂ (readRefusal s) maps softs
+  module _ (map map′ : List ℕ) (soft soft′ : List ℤ) (pairs pairs′ : List ℕ) (maps : length map ≡ 128) (softs : length soft ≡ 1024) (many : length pairs ≡ 1024) where
+    reader-is : readRefusal s (length map) (length soft) (length pairs) ≡ reader
+    reader-is = rw (maps, softs, many)
 
-    pub refused-record : (k : ℕ) → reading (refusedJob k) map′ soft′ ≡ readOutcome s map soft → refusedText k ≡ recordOutput s
+    pub refused-record : (k : ℕ) → reading (refusedJob k) map′ soft′ pairs′ ≡ readOutcome s map soft pairs → refusedText k ≡ recordOutput s
     unfolding readOutcome readServed readRefusal recordOutput
-    refused-record k = by-number (readRefusal s (length map) (length soft)) reader-is
+    refused-record k = by-number (readRefusal s (length map) (length soft) (length pairs)) reader-is
       where
-        by-number : (r : ℕ) → r ≡ reader → reading (refusedJob k) map′ soft′ ≡ settled r (λ j. reading (refusedJob j) map soft) (readServed s (length map) (length soft))
+        by-number : (r : ℕ) → r ≡ reader → reading (refusedJob k) map′ soft′ pairs′ ≡ settled r (λ j. reading (refusedJob j) map soft pairs) (readServed s (length map) (length soft) (length pairs))
             → refusedText k ≡ recordOutput s
         by-number zero e q =
-            let a : refusedJob k ≡ job (exponent s) (listSize s) (stopPosition s) (frameNumber s) = ap (λ (o : Reading). o .answer) q in
+            let a : refusedJob k ≡ job (exponent s) (listSize s) (stopPosition s) (frameNumber s) (pairCount s) = ap (λ (o : Reading). o .answer) q in
             let n : _≡_ {A = ℕ} 0 1 = cc in
             absurd (omega arith)
         by-number (suc r) e q =
@@ -117,18 +117,18 @@ module _ (s : List ℕ) where
             let n : k ≡ suc r = cc in
             ap refusedText n
             ∙ settled-refused refusedText (textOf (frameNumber s) (recordRows s) (recordCeiling s)) (suc r) (first (recordFaults s))
-            (first-before (shapeFaults s ++ fieldFaults s 128 1024) (limitFaults (positions s) (listSize s)) (suc r) e (λ z. omega arith)) (λ z. omega arith)
+            (first-before (shapeFaults s ++ fieldFaults s 128 1024 1024) (limitFaults (positions s) (listSize s)) (suc r) e (λ z. omega arith)) (λ z. omega arith)
 
-    pub read-record : {m l p f : ℕ} → reading (job m l p f) map′ soft′ ≡ readOutcome s map soft → blockText m l p f map′ soft′ ≡ recordOutput s
+    pub read-record : {m l p f k : ℕ} → reading (job m l p f k) map′ soft′ pairs′ ≡ readOutcome s map soft pairs → blockText m l p f k map′ pairs′ soft′ ≡ recordOutput s
     unfolding readOutcome readServed
-    read-record {m} {l} {p} {f} = by-number (readRefusal s (length map) (length soft)) reader-is
+    read-record {m} {l} {p} {f} {k} = by-number (readRefusal s (length map) (length soft) (length pairs)) reader-is
       where
-        by-number : (r : ℕ) → r ≡ reader → reading (job m l p f) map′ soft′ ≡ settled r (λ j. reading (refusedJob j) map soft) (readServed s (length map) (length soft))
-            → blockText m l p f map′ soft′ ≡ recordOutput s
+        by-number : (r : ℕ) → r ≡ reader → reading (job m l p f k) map′ soft′ pairs′ ≡ settled r (λ j. reading (refusedJob j) map soft pairs) (readServed s (length map) (length soft) (length pairs))
+            → blockText m l p f k map′ pairs′ soft′ ≡ recordOutput s
         by-number zero e q =
-            let b = ap (λ (o : Reading). textFor (o .answer) (o .map) (o .soft)) q in
-            b ∙ front e (length map) (length soft) ∙ good-record e
+            let b = ap (λ (o : Reading). textFor (o .answer) (o .map) (o .soft) (o .pairs)) q in
+            b ∙ front e (length map) (length soft) (length pairs) ∙ good-record e
         by-number (suc r) e q =
-            let a : job m l p f ≡ refusedJob (suc r) = ap (λ (o : Reading). o .answer) q in
+            let a : job m l p f k ≡ refusedJob (suc r) = ap (λ (o : Reading). o .answer) q in
             let n : _≡_ {A = ℕ} 0 1 = cc in
             absurd (omega arith)

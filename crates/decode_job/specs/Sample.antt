@@ -5,7 +5,7 @@ use Prim.Native.Nat.{ℕ}
 use lib.ListN.{replicate}
 use Rattle.spec.specs.Bits.{bitsOf, unpacked}
 use Rattle.spec.specs.Transform.{transform}
-use Rattle.spec.specs.Code.{frozen}
+use Rattle.spec.specs.Code.{frozen, frozenBit}
 use Rattle.spec.specs.Faults.{first, some}
 use Rattle.spec.specs.Refusals.{pastEnd}
 use Rattle.spec.specs.Record.{softFrom}
@@ -24,16 +24,16 @@ pub sample-output : programOutput sample ≡
     ∷ 48 ∷ 32 ∷ 49 ∷ 51 ∷ 32 ∷ 48 ∷ 48 ∷ 49 ∷ 48 ∷ 32 ∷ 48 ∷ 49 ∷ 49 ∷ 48 ∷ 10
     ∷ 49 ∷ 32 ∷ 49 ∷ 49 ∷ 32 ∷ 48 ∷ 48 ∷ 48 ∷ 48 ∷ 32 ∷ 48 ∷ 48 ∷ 48 ∷ 48 ∷ 10
     ∷ []
-unfolding sample programOutput textOf linesOf frameLine rowLine bitText decimal digits rows liveBy droppedBy ceilingBy children score largest transform frozen unpacked bitsOf first some pastEnd softFrom
+unfolding sample programOutput textOf linesOf frameLine rowLine bitText decimal digits rows liveBy droppedBy ceilingBy children score largest transform frozen frozenBit unpacked bitsOf first some pastEnd softFrom
 sample-output = refl
 
--- an empty input, one that begins with 08, one of 4,097 bytes that begins so, and a good record of four positions and five rows
+-- an empty input, one that begins with 20 hex, one of 4,097 bytes that begins so, and a good record of four positions and five rows
 abbrev pub refusalOf : List ℕ → ℕ
 refusalOf s = first (programFaults s)
 
 unfoldable pub inputs : List (List ℕ)
-inputs = [] ∷ (8 ∷ []) ∷ replicate 4097 8 ∷ (1 ∷ 2 ∷ 5 ∷ 3 ∷ 5 ∷ 0 ∷ 253 ∷ 255 ∷ 2 ∷ 0 ∷ 7 ∷ 0 ∷ []) ∷ []
+inputs = [] ∷ (32 ∷ []) ∷ replicate 4097 32 ∷ (1 ∷ 2 ∷ 5 ∷ 3 ∷ 5 ∷ 0 ∷ 253 ∷ 255 ∷ 2 ∷ 0 ∷ 7 ∷ 0 ∷ []) ∷ []
 
 pub refused-inputs : map refusalOf inputs ≡ 13 ∷ 14 ∷ 13 ∷ 8 ∷ []
-unfolding inputs first some pastEnd unpacked bitsOf softFrom
+unfolding inputs first some pastEnd frozen unpacked bitsOf softFrom
 refused-inputs = refl

@@ -16,10 +16,21 @@ fn write_record(input: &[u8], out: &mut [u8]) -> usize
 {
     let mut map = [0u8; 128];
     let mut soft = [0i16; 1024];
-    let read = read_job(input, &mut map, &mut soft);
+    let mut pairs = [0u8; 1024];
+    let read = read_job(input, &mut map, &mut soft, &mut pairs);
     match read {
         Job::Refused(k) => write_refused(k, out),
-        Job::Fields(m, l, p, frame) => write_block(m, l, p, frame, &map, &soft, out),
+        Job::Fields(m, l, p, frame, count) => write_block(
+            m,
+            l,
+            p,
+            frame,
+            count,
+            &map,
+            &pairs,
+            &soft,
+            out,
+        ),
     }
 }
 

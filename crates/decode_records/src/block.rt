@@ -64,7 +64,7 @@ fn print_tables(numbers: &[u32], bytes: &[u8]) {
     print_byte(b'\n');
 }
 
-fn decode_block(m: u32, n: usize, l: u32, p: u32, map: &[u8], soft: &[i16])
+fn decode_block(m: u32, n: usize, l: u32, p: u32, map: &[u8], pairs: &[u8], soft: &[i16])
     requires { ⌜ n ≤ 1024 ⌝ }
 {
     let mut numbers = dirty::numbers();
@@ -75,6 +75,7 @@ fn decode_block(m: u32, n: usize, l: u32, p: u32, map: &[u8], soft: &[i16])
     let decoded = decode(
         m,
         map,
+        pairs,
         l,
         p,
         soft,
@@ -89,15 +90,28 @@ fn decode_block(m: u32, n: usize, l: u32, p: u32, map: &[u8], soft: &[i16])
     print_tables(&numbers, &bytes);
 }
 
-// The frozen map and the soft values stand at the front of their slices.
-pub(crate) fn decode_fields(m: u32, l: u32, p: u32, frame: u32, map: &[u8], soft: &[i16])
-    requires { ⌜ (length (now map) ≡ 128) × (length (now soft) ≡ 1024) ⌝ }
+// The frozen map, `count` pairs and the soft values stand at the front of their slices.
+pub(crate) fn decode_fields(
+    m: u32,
+    l: u32,
+    p: u32,
+    frame: u32,
+    count: u32,
+    map: &[u8],
+    pairs: &[u8],
+    soft: &[i16],
+)
+    requires { ⌜ (length (now map) ≡ 128) × (length (now pairs) ≡ 1024) × (length (now soft) ≡ 1024) ⌝ }
 {
     print_fields(m, l, p, frame);
     if m > 10 {
         return;
     }
+    if count > 256 {
+        return;
+    }
     let n = size(m);
     let k = (n + 7) / 8;
-    decode_block(m, n, l, p, &map[..k], &soft[..n]);
+    let q = 4 * (count as usize);
+    decode_block(m, n, l, p, &map[..k], &pairs[..q], &soft[..n]);
 }

@@ -8,10 +8,13 @@ ghost use Prim.Native.Nat.{_<_};
 fn decode_record(bytes: &[u8]) {
     let mut map = [170u8; 128];
     let mut soft = [-1i16; 1024];
-    let read = read_job(bytes, &mut map, &mut soft);
+    let mut pairs = [170u8; 1024];
+    let read = read_job(bytes, &mut map, &mut soft, &mut pairs);
     match read {
         Job::Refused(k) => print_refused(k),
-        Job::Fields(m, l, p, frame) => decode_fields(m, l, p, frame, &map, &soft),
+        Job::Fields(m, l, p, frame, count) => {
+            decode_fields(m, l, p, frame, count, &map, &pairs, &soft)
+        }
     }
 }
 

@@ -70,6 +70,7 @@ fn table_refusal(
 pub fn decode_refusal(
     m: u32,
     map: &[u8],
+    pairs: &[u8],
     l: u32,
     p: u32,
     soft: &[i16],
@@ -79,9 +80,9 @@ pub fn decode_refusal(
     words: usize,
     scores: usize,
 ) -> u32
-    ensures { λ r. ⌜ r ≡ first (decodeFaults (code m (now (map .entry))) l p (now (soft .entry)) (room numbers bytes inputs words scores)) ⌝ }
+    ensures { λ r. ⌜ r ≡ first (decodeFaults (code m (now (map .entry)) (now (pairs .entry))) l p (now (soft .entry)) (room numbers bytes inputs words scores)) ⌝ }
 {
-    let code = code_refusal(m, map);
+    let code = code_refusal(m, map, pairs);
     if code != 0 {
         return code;
     }

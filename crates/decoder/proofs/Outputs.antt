@@ -32,9 +32,9 @@ first-is : (ws : List (List ℕ)) → getD ws 0 [] ≡ headOf ws
 first-is [] = refl
 first-is (w ∷ ws) = refl
 
-module _ (m l p n h : ℕ) (map : List ℕ) (soft : List ℤ) (r : Room) (f : ServeFits m l p n h map soft r) where
-  -- the same call with outputs that just suffice
-  pub enough : ServeFits m l p n h map soft (room (r .numbers) (r .bytes) (n * l) (n * l) l)
+module _ (m l p n h : ℕ) (map pairs : List ℕ) (soft : List ℤ) (r : Room) (f : ServeFits m l p n h map pairs soft r) where
+  -- the same call with words and scores that just suffice
+  pub enough : ServeFits m l p n h map pairs soft (room (r .numbers) (r .bytes) (r .inputs) (n * l) l)
   enough = record {
     accepts = f .accepts;
     some-path = f .some-path;
@@ -46,26 +46,26 @@ module _ (m l p n h : ℕ) (map : List ℕ) (soft : List ℤ) (r : Room) (f : Se
     half-is = f .half-is;
     numbers = f .numbers;
     bytes = f .bytes;
-    inputs = omega arith;
+    inputs = f .inputs;
     words = omega arith;
     scores = omega arith;
   }
 
-  module _ (s : Live) (t b : List ℕ) (st : Stopped m l p h map soft s t b) where
-    run : Running (code m map) (taken soft) (m - 2) l h p s t b (st .ran .slots)
+  module _ (s : Live) (t b : List ℕ) (st : Stopped m l p h map pairs soft s t b) where
+    run : Running (code m map pairs) (taken soft) (m - 2) l h p s t b (st .ran .slots)
     run = st .ran .running
 
     -- there is a live prefix
-    some-live : 0 < length (prefixes (code m map) (taken soft) l p)
+    some-live : 0 < length (prefixes (code m map pairs) (taken soft) l p)
     some-live =
-        let c : Code = code m map in
+        let c : Code = code m map pairs in
         omega (arith, length-live (codeTransform c) c (taken soft) l (f .some-path) p (omega (arith, f .stop, f .size-is, flag-count (f .accepts))), pow-pos (clear (take p (frozen c))), f .some-path)
 
     -- the ceiling by the list's costs is the paper decoder's
-    ceiling-right : ceilingFrom (magnitude (taken soft)) s ≡ ceiling (codeTransform (code m map)) (code m map) (taken soft) l p
+    ceiling-right : ceilingFrom (magnitude (taken soft)) s ≡ ceiling (codeTransform (code m map pairs)) (code m map pairs) (taken soft) l p
     unfolding run
     ceiling-right =
-        let c : Code = code m map in
+        let c : Code = code m map pairs in
         let w : List ℕ = headOf (prefixes c (taken soft) l p) in
         let first : costOf (getD (s .code) 0 0) ≡ cost m (taken soft) w = run .costs 0 some-live ∙ ap (cost m (taken soft)) (first-is (prefixes c (taken soft) l p)) in
         ap₂ (λ (a b : ℕ). scoreFrom (magnitude (taken soft)) (min a b)) first (run .lost)
@@ -75,16 +75,16 @@ module _ (m l p n h : ℕ) (map : List ℕ) (soft : List ℤ) (r : Room) (f : Se
     pub costs-fit : CostsFit (r .scores) soft s
     unfolding run
     costs-fit = record {
-      short = omega (arith, f .long, small m l p n h map soft r f);
+      short = omega (arith, f .long, small m l p n h map pairs soft r f);
       range = f .range;
       one = omega (arith, run .counted, some-live);
       few = omega (arith, st .few, f .list);
       places = omega (arith, st .few, f .scores);
-      below = λ k hk. omega (arith, run .costs k (omega (arith, run .counted)), cost-le m (taken soft) (prefixAt (code m map) (taken soft) l p k));
+      below = λ k hk. omega (arith, run .costs k (omega (arith, run .counted)), cost-le m (taken soft) (prefixAt (code m map pairs) (taken soft) l p k));
     }
 
     module _ (inputs words : List ℕ) (top : ℤ) (scores : List ℤ) (bw : BitsWritten m l p n h (s .count) (r .inputs) (r .words) b inputs words) (cw : CostsWritten (r .scores) soft s top scores) where
-      written : BlockWritten (code m map) (taken soft) l p (s .count) (magnitude (taken soft)) (drop (3 * h) b) (cw .costs) inputs words scores r
+      written : BlockWritten (code m map pairs) (taken soft) l p (s .count) (magnitude (taken soft)) (drop (3 * h) b) (cw .costs) inputs words scores r
       unfolding run
       written = record {
         list = f .list;
@@ -101,9 +101,9 @@ module _ (m l p n h : ℕ) (map : List ℕ) (soft : List ℤ) (r : Room) (f : Se
       }
 
       pub served : (t′ b′ : List ℕ) → t′ ≡ replicate (r .numbers) 0 → b′ ≡ replicate (r .bytes) 0
-          → decoding (decoded (s .count) top) (lent t′ b′ inputs words scores) ≡ decodeServed (code m map) l p soft r
+          → decoding (decoded (s .count) top) (lent t′ b′ inputs words scores) ≡ decodeServed (code m map pairs) l p soft r
       unfolding decodeServed
       served t′ b′ et eb =
           ap₂ (λ (x y : List ℕ). decoding (decoded (s .count) top) (lent x y inputs words scores)) et eb
           ∙ rows-are written top
-          ∙ ap (decodedRows r (rows (codeTransform (code m map)) (code m map) (taken soft) l p)) (cw .top-is ∙ ceiling-right)
+          ∙ ap (decodedRows r (rows (codeTransform (code m map pairs)) (code m map pairs) (taken soft) l p)) (cw .top-is ∙ ceiling-right)

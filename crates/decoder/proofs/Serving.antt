@@ -1,5 +1,5 @@
 -- The sizes of a call that is served, and what its parts ask for.
-use mathlib.Core.Path.{_≡_, sym, ap, ap₂, _∙_}
+use mathlib.Core.Path.{_≡_, sym, ap, ap₂, subst, _∙_}
 use mathlib.Core.List.{List}
 use Prim.Native.Nat.{ℕ, suc, _+_, _-_, _*_, _/_, _≤_, _^_}
 use native.Mathlib.Omega.{arith}
@@ -8,8 +8,9 @@ use lib.ListN.{length, replicate}
 use Rattle.slices.specs.Fill.{filledFrom}
 use lib.IntN.{ℤ}
 use Rattle.spec.specs.Refusals.{Room, room}
-use Rattle.laws.specs.Accepted.{size-small}
+use Rattle.laws.specs.Accepted.{Ruled, size-small}
 use Rattle.laws.specs.MapBits.{enough-bits}
+use Rattle.code.specs.Given.{flags-are}
 use Rattle.tables.specs.Tab.{slotStart}
 use Rattle.tables.specs.Start.{StartSize}
 use Rattle.block_rows.specs.BlockRows.{BitsFit}
@@ -21,7 +22,7 @@ pub zeroed : (s : List ℕ) → filledFrom 0 0 s ≡ replicate (length s) 0
 unfolding filledFrom
 zeroed s = let e : length s - 0 ≡ length s = omega arith in ap (λ (k : ℕ). replicate k 0) e
 
-module _ (m l p n h : ℕ) (map : List ℕ) (soft : List ℤ) (r : Room) (f : ServeFits m l p n h map soft r) where
+module _ (m l p n h : ℕ) (map pairs : List ℕ) (soft : List ℤ) (r : Room) (f : ServeFits m l p n h map pairs soft r) where
   pub exponent : m ≡ suc (suc (m - 2))
   exponent = omega (arith, f .accepts .low)
 
@@ -81,13 +82,25 @@ module _ (m l p n h : ℕ) (map : List ℕ) (soft : List ℤ) (r : Room) (f : Se
     range = f .range;
   }
 
-  pub run-fits : (t b : ℕ) → r .numbers ≤ t → r .bytes ≤ b → RunFits (m - 2) l h n p t b (length map)
-  run-fits t b et eb = record {
+  -- a row of n bytes for each path behind the history
+  rows-there : 3 * h + l * n + n * l ≤ r .bytes
+  rows-there =
+      let c : l * n ≡ n * l = mul-comm l n in
+      let d : (4 * n + 256) * l ≡ 4 * n * l + 256 * l = add-mul (4 * n) 256 l in
+      let e : 4 * n * l ≡ 4 * (n * l) = mul-assoc 4 n l in
+      omega (arith, twice, f .bytes)
+
+  pub run-fits : (t b rows : ℕ) → r .numbers ≤ t → r .bytes ≤ b → r .inputs ≤ rows → RunFits (m - 2) l h n p t b rows map pairs
+  run-fits t b rows et eb er = record {
     sizes = sizes-of;
+    short = small;
     stop = f .stop;
     words = omega (arith, words-there);
-    room = omega (arith, bytes-there n (omega arith));
+    there = omega (arith, bytes-there n (omega arith));
+    room = omega (arith, rows-there);
+    wide = omega (arith, f .inputs);
     flags = flags-there;
+    ruled = subst (λ (fs : List ℕ). Ruled fs pairs) (sym (flags-are m n map pairs (f .size-is))) (f .accepts .ruled);
   }
 
   pub bits-fit : (count bytes : ℕ) → count ≤ l → r .bytes ≤ bytes → BitsFit m l p n h count (r .inputs) (r .words) bytes

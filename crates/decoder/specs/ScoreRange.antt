@@ -73,7 +73,7 @@ score-in-range c y w long range =
 -- Every score of a call that is not refused lies within ±2,047·n, and so does its ceiling.
 module _ (c : Code) (l p : ℕ) (soft : List ℤ) (r : Room) where
   any-score : First (decodeFaults c l p soft r) 0 → (w : List ℕ) → InRange (size c) (scoreOf (codeTransform c) c (taken soft) l w)
-  any-score (later _ (later _ (later _ (later _ (later _ (later long (later range _))))))) w =
+  any-score (later _ (later _ (later _ (later _ (later _ (later _ (later _ (later _ (later long (later range _)))))))))) w =
       score-in-range c soft w (same-of (length soft) (size c) long) range
 
   pub row-scores-in-range : First (decodeFaults c l p soft r) 0

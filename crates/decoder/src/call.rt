@@ -18,6 +18,7 @@ pub enum Decoded {
 pub fn decode(
     m: u32,
     map: &[u8],
+    pairs: &[u8],
     l: u32,
     p: u32,
     soft: &[i16],
@@ -28,11 +29,12 @@ pub fn decode(
     scores: &mut [i32],
 ) -> Decoded
     ensures { λ r. ⌜ decoding (answerOf r) (lent (now (numbers .exit)) (now (bytes .exit)) (now (inputs .exit)) (now (words .exit)) (now (scores .exit)))
-        ≡ decodeOutcome (code m (now (map .entry))) l p (now (soft .entry)) (lent (now (numbers .entry)) (now (bytes .entry)) (now (inputs .entry)) (now (words .entry)) (now (scores .entry))) ⌝ }
+        ≡ decodeOutcome (code m (now (map .entry)) (now (pairs .entry))) l p (now (soft .entry)) (lent (now (numbers .entry)) (now (bytes .entry)) (now (inputs .entry)) (now (words .entry)) (now (scores .entry))) ⌝ }
 {
     let refusal = decode_refusal(
         m,
         map,
+        pairs,
         l,
         p,
         soft,
@@ -50,6 +52,7 @@ pub fn decode(
     serve(
         m,
         map,
+        pairs,
         l as usize,
         p as usize,
         soft,

@@ -16,26 +16,28 @@ use slices::fill_bytes;
 use slices::fill_words;
 use tables::start::start;
 
-// The live list at stop position p.
+// The live list at stop position p. The inputs, which are written later, serve as working memory.
 fn decode_list(
     m: u32,
     map: &[u8],
+    pairs: &[u8],
     l: usize,
     p: usize,
     soft: &[i16],
     t: &mut [u32],
     b: &mut [u8],
+    inputs: &mut [u8],
     n: usize,
     h: usize,
 ) -> Live
-    requires { ⌜ ServeFits m l p n h (now map) (now soft) (room (length (now t)) (length (now b)) (n * l) (n * l) l) ⌝ }
-    ensures { λ r. ⌜ Stopped m l p h (now (map .entry)) (now (soft .entry)) r (now (t .exit)) (now (b .exit)) ⌝ }
+    requires { ⌜ ServeFits m l p n h (now map) (now pairs) (now soft) (room (length (now t)) (length (now b)) (length (now inputs)) (n * l) l) ⌝ }
+    ensures { λ r. ⌜ Stopped m l p h (now (map .entry)) (now (pairs .entry)) (now (soft .entry)) r (now (t .exit)) (now (b .exit)) ⌝ }
 {
     let deep = (m - 2) as usize;
     let q = n / 4;
     fill_bytes(b, 0);
     start(t, soft, deep, q, l, h);
-    positions(t, b, map, p, deep, l, h, n)
+    positions(t, b, inputs, map, pairs, p, deep, l, h, n)
 }
 
 // Both tables set to 0 to their last place.
@@ -50,6 +52,7 @@ fn clear_tables(t: &mut [u32], b: &mut [u8])
 pub(crate) fn serve(
     m: u32,
     map: &[u8],
+    pairs: &[u8],
     l: usize,
     p: usize,
     soft: &[i16],
@@ -61,11 +64,11 @@ pub(crate) fn serve(
     n: usize,
     h: usize,
 ) -> Decoded
-    requires { ⌜ ServeFits m l p n h (now map) (now soft) (room (length (now t)) (length (now b)) (length (now inputs)) (length (now words)) (length (now scores))) ⌝ }
+    requires { ⌜ ServeFits m l p n h (now map) (now pairs) (now soft) (room (length (now t)) (length (now b)) (length (now inputs)) (length (now words)) (length (now scores))) ⌝ }
     ensures { λ r. ⌜ decoding (answerOf r) (lent (now (t .exit)) (now (b .exit)) (now (inputs .exit)) (now (words .exit)) (now (scores .exit)))
-        ≡ decodeServed (code m (now (map .entry))) l p (now (soft .entry)) (room (length (now (t .entry))) (length (now (b .entry))) (length (now (inputs .entry))) (length (now (words .entry))) (length (now (scores .entry)))) ⌝ }
+        ≡ decodeServed (code m (now (map .entry)) (now (pairs .entry))) l p (now (soft .entry)) (room (length (now (t .entry))) (length (now (b .entry))) (length (now (inputs .entry))) (length (now (words .entry))) (length (now (scores .entry)))) ⌝ }
 {
-    let s = decode_list(m, map, l, p, soft, t, b, n, h);
+    let s = decode_list(m, map, pairs, l, p, soft, t, b, inputs, n, h);
     let rows = s.count;
     write_bits(inputs, words, b, rows, m, l, p, n, h);
     let ceiling = write_costs(scores, soft, s);

@@ -1,12 +1,12 @@
 // The encoder.
-mod spread;
+mod fill;
 
 use code::bit_refusal;
 use code::code_refusal;
 use code::payload_size;
 use code::size;
+use fill::fill_input;
 use slices::fill_bytes;
-use spread::spread_payload;
 use transform::transform_word;
 ghost use mathlib.Core.Path.{_≡_};
 ghost use Prim.Native.Nat.{_^_};
@@ -16,11 +16,12 @@ ghost use Rattle.spec.specs.Faults.{first};
 ghost use Rattle.spec.specs.Outcome.{written, encodeOutcome};
 ghost use Rattle.code.specs.Given.{Given, givenFaults};
 
-// Refusals 1, 2, 3, 6 and 11, or 0.
-fn payload_refusal(m: u32, map: &[u8], payload: &[u8]) -> u32
-    ensures { λ r. ⌜ r ≡ first (givenFaults (code m (now (map .entry))) (payloadSize (code m (now (map .entry)))) (now (payload .entry))) ⌝ }
+// Refusals 1, 2, 3, 15, 6 and 11, or 0.
+fn payload_refusal(m: u32, map: &[u8], pairs: &[u8], payload: &[u8]) -> u32
+    ensures { λ r. ⌜ r ≡ first (givenFaults (code m (now (map .entry)) (now (pairs .entry)))
+        (payloadSize (code m (now (map .entry)) (now (pairs .entry)))) (now (payload .entry))) ⌝ }
 {
-    let code = code_refusal(m, map);
+    let code = code_refusal(m, map, pairs);
     if code != 0 {
         return code;
     }
@@ -29,20 +30,21 @@ fn payload_refusal(m: u32, map: &[u8], payload: &[u8]) -> u32
 }
 
 // The code word of a payload, in a slice of n bytes.
-fn write_word(m: u32, map: &[u8], payload: &[u8], word: &mut [u8])
-    requires { ⌜ (length (now word) ≡ 2 ^ m) × (Given (code m (now map)) (payloadSize (code m (now map))) (now payload)) ⌝ }
-    ensures { λ _. ⌜ now (word .exit) ≡ encoded (code m (now (map .entry))) (now (payload .entry)) ⌝ }
+fn write_word(m: u32, map: &[u8], pairs: &[u8], payload: &[u8], word: &mut [u8])
+    requires { ⌜ (length (now word) ≡ 2 ^ m)
+        × (Given (code m (now map) (now pairs)) (payloadSize (code m (now map) (now pairs))) (now payload)) ⌝ }
+    ensures { λ _. ⌜ now (word .exit) ≡ encoded (code m (now (map .entry)) (now (pairs .entry))) (now (payload .entry)) ⌝ }
 {
-    spread_payload(map, payload, word);
+    fill_input(map, pairs, payload, word);
     transform_word(word, m);
 }
 
 // 0, with the code word in `word` and 0 behind it, or the refusal number.
-pub fn encode(m: u32, map: &[u8], payload: &[u8], word: &mut [u8]) -> u32
+pub fn encode(m: u32, map: &[u8], pairs: &[u8], payload: &[u8], word: &mut [u8]) -> u32
     ensures { λ r. ⌜ written r (now (word .exit))
-        ≡ encodeOutcome (code m (now (map .entry))) (now (payload .entry)) (now (word .entry)) ⌝ }
+        ≡ encodeOutcome (code m (now (map .entry)) (now (pairs .entry))) (now (payload .entry)) (now (word .entry)) ⌝ }
 {
-    let refusal = payload_refusal(m, map, payload);
+    let refusal = payload_refusal(m, map, pairs, payload);
     if refusal != 0 {
         return refusal;
     }
@@ -50,7 +52,7 @@ pub fn encode(m: u32, map: &[u8], payload: &[u8], word: &mut [u8]) -> u32
     if word.len() < n {
         return 10;
     }
-    write_word(m, map, payload, &mut word[..n]);
+    write_word(m, map, pairs, payload, &mut word[..n]);
     fill_bytes(word, n);
     0
 }

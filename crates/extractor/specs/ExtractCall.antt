@@ -14,7 +14,7 @@ use Rattle.code.specs.Given.{Given, givenFaults, given-numbers, given-of, given
 
 -- 12 and 10 are tested on the input, and what is left of the call once it is known
 abbrev pub inputFaults : Code → List ℕ → ℕ → List Fault
-inputFaults c input room = fault 12 (broken (frozen c) input) ∷ roomFault (payloadSize c) room ∷ []
+inputFaults c input room = fault 12 (broken c input) ∷ roomFault (payloadSize c) room ∷ []
 
 unfoldable pub payloadOutcome : Code → List ℕ → List ℕ → Written
 payloadOutcome c input out =
@@ -32,7 +32,7 @@ module _ (c : Code) (input out : List ℕ) where
       settled-served (λ k. written k out) (written 0 (padded 0 (length out) (gathered (frozen c) input))) (first (inputFaults c input (length out))) e
 
 module _ (c : Code) (word : List ℕ) (room : ℕ) where
-  pub extracts : extractRefusal c word room ≡ 0 → Given c (size c) word × (broken (frozen c) (inputOf c word) ≡ false) × (payloadSize c ≤ room)
+  pub extracts : extractRefusal c word room ≡ 0 → Given c (size c) word × (broken c (inputOf c word) ≡ false) × (payloadSize c ≤ room)
   unfolding extractRefusal
   extracts e =
       let rest : List Fault = inputFaults c (inputOf c word) room in
@@ -40,10 +40,10 @@ module _ (c : Code) (word : List ℕ) (room : ℕ) where
       parts (given-of (none-before rest (given-numbers c (size c) word) all)) (none-after (given-numbers c (size c) word) all)
     where
       parts : Given c (size c) word → First (inputFaults c (inputOf c word) room) 0
-          → Given c (size c) word × (broken (frozen c) (inputOf c word) ≡ false) × (payloadSize c ≤ room)
+          → Given c (size c) word × (broken c (inputOf c word) ≡ false) × (payloadSize c ≤ room)
       parts g (later i (later d none)) = (g, i, ltb-false room (payloadSize c) d)
 
-  pub extract-accepted : Given c (size c) word → broken (frozen c) (inputOf c word) ≡ false → payloadSize c ≤ room → extractRefusal c word room ≡ 0
+  pub extract-accepted : Given c (size c) word → broken c (inputOf c word) ≡ false → payloadSize c ≤ room → extractRefusal c word room ≡ 0
   unfolding extractRefusal
   extract-accepted g i h =
       let rest : List Fault = inputFaults c (inputOf c word) room in

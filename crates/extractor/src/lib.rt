@@ -5,7 +5,7 @@ use code::bit_refusal;
 use code::code_refusal;
 use code::payload_size;
 use code::size;
-use gather::frozen_bit_set;
+use gather::breaks_rule;
 use gather::gather_payload;
 use slices::copy;
 use slices::fill_bytes;
@@ -22,11 +22,11 @@ ghost use Rattle.transform.specs.Word.{Word};
 ghost use Rattle.code.specs.Given.{givenFaults};
 ghost use Rattle.extractor.specs.ExtractCall.{payloadOutcome};
 
-// Refusals 1, 2, 3, 6 and 11, or 0.
-fn word_refusal(m: u32, map: &[u8], word: &[u8]) -> u32
-    ensures { λ r. ⌜ r ≡ first (givenFaults (code m (now (map .entry))) (2 ^ m) (now (word .entry))) ⌝ }
+// Refusals 1, 2, 3, 15, 6 and 11, or 0.
+fn word_refusal(m: u32, map: &[u8], pairs: &[u8], word: &[u8]) -> u32
+    ensures { λ r. ⌜ r ≡ first (givenFaults (code m (now (map .entry)) (now (pairs .entry))) (2 ^ m) (now (word .entry))) ⌝ }
 {
-    let code = code_refusal(m, map);
+    let code = code_refusal(m, map, pairs);
     if code != 0 {
         return code;
     }
@@ -44,12 +44,12 @@ fn write_input(m: u32, word: &[u8], input: &mut [u8])
 }
 
 // Refusals 12 and 10; else 0, with the payload of an input in `payload` and 0 behind it.
-fn write_payload(m: u32, map: &[u8], input: &[u8], payload: &mut [u8]) -> u32
-    requires { ⌜ (Accepted (code m (now map))) × (length (now input) ≡ 2 ^ m) ⌝ }
+fn write_payload(m: u32, map: &[u8], pairs: &[u8], input: &[u8], payload: &mut [u8]) -> u32
+    requires { ⌜ (Accepted (code m (now map) (now pairs))) × (length (now input) ≡ 2 ^ m) ⌝ }
     ensures { λ r. ⌜ written r (now (payload .exit))
-        ≡ payloadOutcome (code m (now (map .entry))) (now (input .entry)) (now (payload .entry)) ⌝ }
+        ≡ payloadOutcome (code m (now (map .entry)) (now (pairs .entry))) (now (input .entry)) (now (payload .entry)) ⌝ }
 {
-    let outside = frozen_bit_set(map, input);
+    let outside = breaks_rule(map, pairs, input);
     let k = payload_size(m, map);
     let short = payload.len() < k;
     if outside {
@@ -65,16 +65,16 @@ fn write_payload(m: u32, map: &[u8], input: &[u8], payload: &mut [u8]) -> u32
 
 // 0, with the payload of a word in `payload` and 0 behind it, or the refusal number. A refused call writes nowhere, so the
 // input is worked out aside.
-pub fn extract(m: u32, map: &[u8], word: &[u8], payload: &mut [u8]) -> u32
+pub fn extract(m: u32, map: &[u8], pairs: &[u8], word: &[u8], payload: &mut [u8]) -> u32
     ensures { λ r. ⌜ written r (now (payload .exit))
-        ≡ extractOutcome (code m (now (map .entry))) (now (word .entry)) (now (payload .entry)) ⌝ }
+        ≡ extractOutcome (code m (now (map .entry)) (now (pairs .entry))) (now (word .entry)) (now (payload .entry)) ⌝ }
 {
-    let refusal = word_refusal(m, map, word);
+    let refusal = word_refusal(m, map, pairs, word);
     if refusal != 0 {
         return refusal;
     }
     let n = size(m);
     let mut input = [0u8; 1024];
     write_input(m, word, &mut input[..n]);
-    write_payload(m, map, &input[..n], payload)
+    write_payload(m, map, pairs, &input[..n], payload)
 }

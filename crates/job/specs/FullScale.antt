@@ -1,4 +1,4 @@
--- −2,048 is full scale: 02, wish 1. A record with it is read as the record with −2,047 in its place: the answer and both slices, whether
+-- −2,048 is full scale: 02, wish 1. A record with it is read as the record with −2,047 in its place: the answer and the three slices, whether
 -- it is refused or not.
 use mathlib.Core.Path.{_≡_, refl, sym, ap, ap₂, _∙_}
 use mathlib.Core.Bool.{Bool, true, false}
@@ -14,7 +14,7 @@ use Rattle.spec.specs.Code.{mapBytes}
 use Rattle.spec.specs.Score.{saturated, taken}
 use Rattle.spec.specs.Faults.{settled, some}
 use Rattle.spec.specs.Refusals.{outOfRange}
-use Rattle.spec.specs.Record.{byteAt, twoAt, fourAt, signed16, softFrom, ifPresent, stopAt, frameAt, mapAt, fields, exponent, positions, listSize, stopPosition, frameNumber, recordMap, softAt, recordSoft}
+use Rattle.spec.specs.Record.{byteAt, twoAt, fourAt, signed16, softFrom, ifPresent, stopAt, frameAt, mapAt, fields, exponent, positions, listSize, stopPosition, frameNumber, countAt, pairsAt, pairCount, recordMap, recordPairs, softAt, recordSoft}
 use Rattle.spec.specs.Outcome.{refusedJob, Reading, reading, readRefusal, readServed, readOutcome}
 use Rattle.laws.specs.FullScale.{range-alike}
 
@@ -68,24 +68,38 @@ module _ (s s′ : List ℕ) (a : Alike s s′) where
       part-same (mapAt (fields s)) (mapBytes (positions s)) (omega arith)
       ∙ ap₂ (λ (f m : ℕ). take (mapBytes (2 ^ m)) (drop (mapAt f) s′)) fields-same exponent-same
 
+  count-same : pairCount s ≡ pairCount s′
+  count-same =
+      present-same (fields s / 8 % 2) (twoAt s (countAt s)) (twoAt s′ (countAt s)) 0 (λ h. two-same (countAt s) (omega arith))
+      ∙ ap₂ (λ (f m : ℕ). ifPresent (f / 8 % 2) (twoAt s′ (mapAt f + mapBytes (2 ^ m))) 0) fields-same exponent-same
+
+  begin-same : pairsAt s ≡ pairsAt s′
+  begin-same = ap₂ (λ (f m : ℕ). mapAt f + mapBytes (2 ^ m) + 2 * (f / 8 % 2)) fields-same exponent-same
+
+  pairs-same : recordPairs s ≡ recordPairs s′
+  pairs-same =
+      part-same (pairsAt s) (4 * pairCount s) (omega arith) ∙ ap₂ (λ (at k : ℕ). take (4 * k) (drop at s′)) begin-same count-same
+
   soft-same : taken (recordSoft s) ≡ taken (recordSoft s′)
-  soft-same = a .values ∙ ap₂ (λ (f m : ℕ). taken (softFrom s′ (mapAt f + mapBytes (2 ^ m)) (2 ^ m))) fields-same exponent-same
+  soft-same =
+      let at : softAt s ≡ softAt s′ = ap₂ (λ (at k : ℕ). at + 4 * k) begin-same count-same in
+      a .values ∙ ap₂ (λ (at m : ℕ). taken (softFrom s′ at (2 ^ m))) at exponent-same
 
-  refusal-same : (maps softs : ℕ) → readRefusal s maps softs ≡ readRefusal s′ maps softs
+  refusal-same : (maps softs pairs : ℕ) → readRefusal s maps softs pairs ≡ readRefusal s′ maps softs pairs
   unfolding readRefusal
-  refusal-same maps softs =
+  refusal-same maps softs pairs =
       let range : some outOfRange (recordSoft s) ≡ some outOfRange (recordSoft s′) = range-alike (recordSoft s) (recordSoft s′) soft-same in
-      cc (a .long, fields-same, exponent-same, size-same, stop-same, map-same, range)
+      cc (a .long, fields-same, exponent-same, size-same, stop-same, count-same, map-same, pairs-same, range)
 
-  served-same : (maps softs : ℕ) → readServed s maps softs ≡ readServed s′ maps softs
+  served-same : (maps softs pairs : ℕ) → readServed s maps softs pairs ≡ readServed s′ maps softs pairs
   unfolding readServed
-  served-same maps softs = cc (exponent-same, size-same, stop-same, frame-same, map-same, soft-same)
+  served-same maps softs pairs = cc (exponent-same, size-same, stop-same, frame-same, count-same, map-same, pairs-same, soft-same)
 
-  pub read-alike : (map : List ℕ) (soft : List ℤ) → readOutcome s map soft ≡ readOutcome s′ map soft
+  pub read-alike : (map : List ℕ) (soft : List ℤ) (pairs : List ℕ) → readOutcome s map soft pairs ≡ readOutcome s′ map soft pairs
   unfolding readOutcome
-  read-alike map soft =
-      ap₂ (λ (k : ℕ) (o : Reading). settled k (λ j. reading (refusedJob j) map soft) o)
-      (refusal-same (length map) (length soft)) (served-same (length map) (length soft))
+  read-alike map soft pairs =
+      ap₂ (λ (k : ℕ) (o : Reading). settled k (λ j. reading (refusedJob j) map soft pairs) o)
+      (refusal-same (length map) (length soft) (length pairs)) (served-same (length map) (length soft) (length pairs))
 
 -- ---- −2,048 is 00 F8, −2,047 is 01 F8, low byte first
 module _ (a b : List ℕ) where
@@ -128,8 +142,8 @@ module _ (a b : List ℕ) where
   values-alike (suc n) at even = ap₂ _∷_ (value at even) (values-alike n (at + 2) (omega arith))
 
   -- A record whose soft value i is −2,048, and the same with −2,047 for it: one outcome, whatever the lent slices hold.
-  pub full-scale-record : (i : ℕ) → length a ≡ softAt (held 0) + 2 * i → (map : List ℕ) (soft : List ℤ)
-      → readOutcome (held 0) map soft ≡ readOutcome (held 1) map soft
+  pub full-scale-record : (i : ℕ) → length a ≡ softAt (held 0) + 2 * i → (map : List ℕ) (soft : List ℤ) (pairs : List ℕ)
+      → readOutcome (held 0) map soft pairs ≡ readOutcome (held 1) map soft pairs
   full-scale-record i e = read-alike (held 0) (held 1) record {
     long = length-append a (0 ∷ 248 ∷ b) ∙ sym (length-append a (1 ∷ 248 ∷ b));
     begin = λ j h. ahead j (omega arith);

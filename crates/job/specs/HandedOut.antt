@@ -1,37 +1,39 @@
 -- What the reader hands out for a record that it reads: soft values within ±2,047, and a block that the decoder accepts.
-use mathlib.Core.Path.{_≡_, refl, sym, ap₂, subst, _∙_}
+use mathlib.Core.Path.{_≡_, refl, sym, subst, _∙_}
 use mathlib.Core.Bool.{false}
 use mathlib.Core.List.{List, [], _∷_, _++_}
-use Prim.Native.Nat.{ℕ, zero, suc, _-_, _^_, _≤_}
+use Prim.Native.Nat.{ℕ, zero, suc, _-_, _*_, _^_, _≤_}
 use native.Mathlib.Omega.{arith}
-use lib.ListN.{length, take, drop, replicate, length-drop}
-use lib.Seq.{length-take-le, take-at}
+use lib.ListN.{length, take, replicate}
+use lib.Seq.{take-at}
 use lib.IntN.{ℤ, pos, natAbs}
 use Rattle.spec.specs.Code.{code, mapBytes}
 use Rattle.spec.specs.Score.{taken}
 use Rattle.spec.specs.Faults.{first, settled, some}
 use Rattle.spec.specs.Refusals.{Room, outOfRange, tableFaults, decodeFaults}
-use Rattle.spec.specs.Record.{exponent, positions, fields, mapAt, listSize, stopPosition, recordMap, softAt, recordSoft, shapeFaults, fieldFaults}
+use Rattle.spec.specs.Record.{exponent, positions, listSize, stopPosition, pairCount, recordMap, recordPairs, recordCode, softAt, recordSoft, shapeFaults, fieldFaults}
 use Rattle.spec.specs.Outcome.{padded, Job, job, refusedJob, Reading, reading, readRefusal, readServed, readOutcome, decodeRefusal}
 use Rattle.laws.specs.FirstFault.{First, later, of-first, first-is, is-first, same, not-either}
 use Rattle.laws.specs.ListCost.{All, none, more}
 use Rattle.laws.specs.Taken.{saturated-small, taken-range}
+use Rattle.job_fields.specs.Laid.{Shaped, length-map, length-pairs}
 use Rattle.job.specs.SoftValues.{length-soft}
 use Rattle.job.specs.Calls.{accepted-record, read-served}
 
-module _ (s : List ℕ) (maps softs : ℕ) (e : 0 ≡ readRefusal s maps softs) where
-  faults : First (shapeFaults s ++ fieldFaults s maps softs) 0
+module _ (s : List ℕ) (maps softs pairs : ℕ) (e : 0 ≡ readRefusal s maps softs pairs) where
+  faults : First (shapeFaults s ++ fieldFaults s maps softs pairs) 0
   unfolding readRefusal
-  faults = of-first (shapeFaults s ++ fieldFaults s maps softs) 0 e
+  faults = of-first (shapeFaults s ++ fieldFaults s maps softs pairs) 0 e
 
-  map-long : length (recordMap s) ≡ mapBytes (positions s)
-  map-long =
-      let w = accepted-record s maps softs e .shaped .whole in
-      length-take-le (mapBytes (positions s)) (drop (mapAt (fields s)) s) (omega (arith, length-drop (mapAt (fields s)) s))
+  shaped : Shaped s
+  shaped = accepted-record s maps softs pairs e .shaped
 
-  -- the map and the soft values, each at the front of its slice
+  -- the map, the pairs and the soft values, each at the front of its slice
   pub map-at-front : (a : ℕ) → take (mapBytes (positions s)) (padded 0 a (recordMap s)) ≡ recordMap s
-  map-at-front a = take-at (recordMap s) (replicate (a - length (recordMap s)) 0) (mapBytes (positions s)) map-long
+  map-at-front a = take-at (recordMap s) (replicate (a - length (recordMap s)) 0) (mapBytes (positions s)) (length-map shaped)
+
+  pub pairs-at-front : (a : ℕ) → take (4 * pairCount s) (padded 0 a (recordPairs s)) ≡ recordPairs s
+  pairs-at-front a = take-at (recordPairs s) (replicate (a - length (recordPairs s)) 0) (4 * pairCount s) (length-pairs shaped)
 
   pub soft-at-front : (a : ℕ) → take (positions s) (padded (pos 0) a (taken (recordSoft s))) ≡ taken (recordSoft s)
   soft-at-front a =
@@ -39,22 +41,25 @@ module _ (s : List ℕ) (maps softs : ℕ) (e : 0 ≡ readRefusal s maps softs) 
 
   -- the decoder can refuse the block for the tables and outputs alone that are lent to it: 8 to 10
   pub block-refusal : (r : Room) → first (tableFaults (positions s) (listSize s) r)
-      ≡ decodeRefusal (code (exponent s) (recordMap s)) (listSize s) (stopPosition s) (taken (recordSoft s)) r
+      ≡ decodeRefusal (recordCode s) (listSize s) (stopPosition s) (taken (recordSoft s)) r
   unfolding decodeRefusal
   block-refusal r = go faults
     where
-      go : First (shapeFaults s ++ fieldFaults s maps softs) 0 → first (tableFaults (positions s) (listSize s) r)
-          ≡ first (decodeFaults (code (exponent s) (recordMap s)) (listSize s) (stopPosition s) (taken (recordSoft s)) r)
-      go (later _ (later _ (later _ (later m (later _ (later map (later l (later p (later y _))))))))) =
-          is-first (decodeFaults (code (exponent s) (recordMap s)) (listSize s) (stopPosition s) (taken (recordSoft s)) r) _
+      go : First (shapeFaults s ++ fieldFaults s maps softs pairs) 0 → first (tableFaults (positions s) (listSize s) r)
+          ≡ first (decodeFaults (recordCode s) (listSize s) (stopPosition s) (taken (recordSoft s)) r)
+      go (later _ (later _ (later _ (later m (later _ (later _ (later _ (later map (later part (later many (later rule (later l (later p (later y _)))))))))))))) =
+          is-first (decodeFaults (recordCode s) (listSize s) (stopPosition s) (taken (recordSoft s)) r) _
           (later m
-          (later (same (length (recordMap s)) (mapBytes (positions s)) map-long)
+          (later (same (length (recordMap s)) (mapBytes (positions s)) (length-map shaped))
           (later map
+          (later part
+          (later many
+          (later rule
           (later l
           (later p
           (later (same (length (taken (recordSoft s))) (positions s) (length-soft s (softAt s) (positions s)))
           (later (taken-range (recordSoft s) ∙ y)
-          (first-is (tableFaults (positions s) (listSize s) r)))))))))
+          (first-is (tableFaults (positions s) (listSize s) r))))))))))))
 
 -- within ±2,047, where none is out of range, with zeros behind
 small-taken : (ys : List ℤ) (k : ℕ) → some outOfRange ys ≡ false → All (λ (y : ℤ). natAbs y ≤ 2047) (taken ys ++ replicate k (pos 0))
@@ -65,30 +70,38 @@ small-taken (y ∷ ys) k e =
     let r = not-either (outOfRange y) (some outOfRange ys) e in
     more (saturated-small y (r .0)) (small-taken ys k (r .1))
 
--- an answer with fields: the decoder, given these, the map at the front of its slice and the soft values at the front of theirs,
+-- an answer with fields: the decoder, given these and the fronts of the three slices, the map, four bytes a pair and n soft values,
 -- refuses for the tables and outputs alone that are lent to it
-abbrev pub OnlyByRoom : Job → List ℕ → List ℤ → Room → Type 0
-OnlyByRoom (job m l p f) map soft r =
-    decodeRefusal (code m (take (mapBytes (2 ^ m)) map)) l p (take (2 ^ m) soft) r ≡ first (tableFaults (2 ^ m) l r)
-OnlyByRoom (refusedJob k) map soft r = Unit {0}
+abbrev pub OnlyByRoom : Job → List ℕ → List ℤ → List ℕ → Room → Type 0
+OnlyByRoom (job m l p f k) map soft pairs r =
+    decodeRefusal (code m (take (mapBytes (2 ^ m)) map) (take (4 * k) pairs)) l p (take (2 ^ m) soft) r ≡ first (tableFaults (2 ^ m) l r)
+OnlyByRoom (refusedJob k) map soft pairs r = Unit {0}
 
-module _ (s map : List ℕ) (soft : List ℤ) where
+module _ (s map : List ℕ) (soft : List ℤ) (pairs : List ℕ) where
   -- Every soft value in the slice lies within ±2,047, once a record is read.
-  pub handed-out-in-range : 0 ≡ readRefusal s (length map) (length soft) → All (λ (y : ℤ). natAbs y ≤ 2047) (readOutcome s map soft .soft)
+  pub handed-out-in-range : 0 ≡ readRefusal s (length map) (length soft) (length pairs)
+      → All (λ (y : ℤ). natAbs y ≤ 2047) (readOutcome s map soft pairs .soft)
   unfolding readServed
   handed-out-in-range e =
-      subst (λ (o : Reading). All (λ (y : ℤ). natAbs y ≤ 2047) (o .soft)) (read-served s map soft e)
-      (small-taken (recordSoft s) (length soft - length (taken (recordSoft s))) (accepted-record s (length map) (length soft) e .range))
+      subst (λ (o : Reading). All (λ (y : ℤ). natAbs y ≤ 2047) (o .soft)) (read-served s map soft pairs e)
+      (small-taken (recordSoft s) (length soft - length (taken (recordSoft s))) (accepted-record s (length map) (length soft) (length pairs) e .range))
 
   -- What the reader hands out is accepted by every decoder call that is lent enough.
-  pub handed-out-accepted : (r : Room) → let o : Reading = readOutcome s map soft in OnlyByRoom (o .answer) (o .map) (o .soft) r
+  pub handed-out-accepted : (r : Room) → let o : Reading = readOutcome s map soft pairs in OnlyByRoom (o .answer) (o .map) (o .soft) (o .pairs) r
   unfolding readOutcome readServed
-  handed-out-accepted r = by-number (readRefusal s (length map) (length soft)) refl
+  handed-out-accepted r = by-number (readRefusal s (length map) (length soft) (length pairs)) refl
     where
-      by-number : (k : ℕ) → k ≡ readRefusal s (length map) (length soft)
-          → let o : Reading = settled k (λ j. reading (refusedJob j) map soft) (readServed s (length map) (length soft)) in OnlyByRoom (o .answer) (o .map) (o .soft) r
+      same-call : {u u′ q q′ : List ℕ} {y y′ : List ℤ} → u ≡ u′ → q ≡ q′ → y ≡ y′
+          → decodeRefusal (code (exponent s) u q) (listSize s) (stopPosition s) y r ≡ decodeRefusal (code (exponent s) u′ q′) (listSize s) (stopPosition s) y′ r
+      same-call a b d = rw (a, b, d)
+
+      by-number : (k : ℕ) → k ≡ readRefusal s (length map) (length soft) (length pairs)
+          → let o : Reading = settled k (λ j. reading (refusedJob j) map soft pairs) (readServed s (length map) (length soft) (length pairs)) in
+          OnlyByRoom (o .answer) (o .map) (o .soft) (o .pairs) r
       by-number zero e =
-          ap₂ (λ (u : List ℕ) (y : List ℤ). decodeRefusal (code (exponent s) u) (listSize s) (stopPosition s) y r)
-          (map-at-front s (length map) (length soft) e (length map)) (soft-at-front s (length map) (length soft) e (length soft))
-          ∙ sym (block-refusal s (length map) (length soft) e r)
+          let maps : ℕ = length map in
+          let softs : ℕ = length soft in
+          let many : ℕ = length pairs in
+          same-call (map-at-front s maps softs many e maps) (pairs-at-front s maps softs many e many) (soft-at-front s maps softs many e softs)
+          ∙ sym (block-refusal s maps softs many e r)
       by-number (suc k) e = tt

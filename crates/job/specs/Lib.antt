@@ -3,6 +3,7 @@ pub mod Calls
 pub mod SoftValues
 pub mod HandedOut
 pub mod RecordOf
+pub mod RecordParts
 pub mod ReadBack
 pub mod Sample
 pub mod Refused

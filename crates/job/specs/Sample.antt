@@ -1,58 +1,62 @@
--- The sample record of 01, "The program's output", and records that are refused, by the definitions.
+-- The sample record of 01, "The program's output", records that are refused, and records with pairs (02, wish 6), by the definitions.
 use mathlib.Core.Path.{_≡_, refl}
 use mathlib.Core.List.{List, [], _∷_, _++_, map}
 use Prim.Native.Nat.{ℕ}
+use lib.ListN.{replicate}
 use lib.IntN.{pos, negsuc}
 use Rattle.spec.specs.Bits.{bitsOf, unpacked}
+use Rattle.spec.specs.Code.{frozen}
 use Rattle.spec.specs.Faults.{first, some}
 use Rattle.spec.specs.Refusals.{pastEnd}
 use Rattle.spec.specs.Record.{softFrom}
 use Rattle.spec.specs.Outcome.{reading, job, refusedJob, readRefusal, readServed, readOutcome}
-use Rattle.job.specs.RecordOf.{absent, present, Content, recordOf}
+use Rattle.job.specs.RecordOf.{absent, present, unannounced, Content, recordOf}
 
 -- 01 02 02 03 05 00 FD FF 02 00 07 00
 unfoldable pub sample : List ℕ
 sample = 1 ∷ 2 ∷ 2 ∷ 3 ∷ 5 ∷ 0 ∷ 253 ∷ 255 ∷ 2 ∷ 0 ∷ 7 ∷ 0 ∷ []
 
--- list size 2, positions 0 and 1 frozen, soft values 5, -3, 2, 7; what is absent: stop position 4, frame 0
+-- list size 2, positions 0 and 1 frozen, soft values 5, -3, 2, 7; what is absent: stop position 4, frame 0, no pairs
 unfoldable pub said : Content
-said = record { m = 2; size = present 2; stop = absent; frame = absent; map = 3 ∷ []; soft = pos 5 ∷ negsuc 2 ∷ pos 2 ∷ pos 7 ∷ [] }
+said = record { m = 2; size = present 2; stop = absent; frame = absent; map = 3 ∷ []; pairs = unannounced; soft = pos 5 ∷ negsuc 2 ∷ pos 2 ∷ pos 7 ∷ [] }
 
 pub sample-built : recordOf said ≡ sample
 unfolding recordOf said sample
 sample-built = refl
 
--- read into slices of 2 bytes and 5 numbers
-pub sample-read : readOutcome sample (9 ∷ 9 ∷ []) (pos 9 ∷ pos 9 ∷ pos 9 ∷ pos 9 ∷ pos 9 ∷ [])
-    ≡ reading (job 2 2 4 0) (3 ∷ 0 ∷ []) (pos 5 ∷ negsuc 2 ∷ pos 2 ∷ pos 7 ∷ pos 0 ∷ [])
-unfolding sample readOutcome readRefusal readServed first some pastEnd unpacked bitsOf softFrom
+-- read into slices of 2 bytes, 5 numbers and 1 byte
+pub sample-read : readOutcome sample (9 ∷ 9 ∷ []) (pos 9 ∷ pos 9 ∷ pos 9 ∷ pos 9 ∷ pos 9 ∷ []) (9 ∷ [])
+    ≡ reading (job 2 2 4 0 0) (3 ∷ 0 ∷ []) (pos 5 ∷ negsuc 2 ∷ pos 2 ∷ pos 7 ∷ pos 0 ∷ []) (0 ∷ [])
+unfolding sample readOutcome readRefusal readServed first some pastEnd unpacked bitsOf frozen softFrom
 sample-read = refl
 
 -- no room for the fourth value: the number, and all as before
-pub sample-refused : readOutcome sample (9 ∷ []) (pos 9 ∷ pos 9 ∷ pos 9 ∷ []) ≡ reading (refusedJob 10) (9 ∷ []) (pos 9 ∷ pos 9 ∷ pos 9 ∷ [])
-unfolding sample readOutcome readRefusal readServed first some pastEnd unpacked bitsOf softFrom
+pub sample-refused : readOutcome sample (9 ∷ []) (pos 9 ∷ pos 9 ∷ pos 9 ∷ []) (9 ∷ [])
+    ≡ reading (refusedJob 10) (9 ∷ []) (pos 9 ∷ pos 9 ∷ pos 9 ∷ []) (9 ∷ [])
+unfolding sample readOutcome readRefusal readServed first some pastEnd unpacked bitsOf frozen softFrom
 sample-refused = refl
 
 -- -2,048, 2,047, -2,047 and 7: -2,047 is handed out for the first
-pub full-scale-read : readOutcome (0 ∷ 2 ∷ 3 ∷ 0 ∷ 248 ∷ 255 ∷ 7 ∷ 1 ∷ 248 ∷ 7 ∷ 0 ∷ []) (9 ∷ []) (pos 9 ∷ pos 9 ∷ pos 9 ∷ pos 9 ∷ [])
-    ≡ reading (job 2 4 4 0) (3 ∷ []) (negsuc 2046 ∷ pos 2047 ∷ negsuc 2046 ∷ pos 7 ∷ [])
-unfolding readOutcome readRefusal readServed first some pastEnd unpacked bitsOf softFrom
+pub full-scale-read : readOutcome (0 ∷ 2 ∷ 3 ∷ 0 ∷ 248 ∷ 255 ∷ 7 ∷ 1 ∷ 248 ∷ 7 ∷ 0 ∷ []) (9 ∷ []) (pos 9 ∷ pos 9 ∷ pos 9 ∷ pos 9 ∷ []) []
+    ≡ reading (job 2 4 4 0 0) (3 ∷ []) (negsuc 2046 ∷ pos 2047 ∷ negsuc 2046 ∷ pos 7 ∷ []) []
+unfolding readOutcome readRefusal readServed first some pastEnd unpacked bitsOf frozen softFrom
 full-scale-read = refl
 
 -- the number for a record of four positions with all fields, and room for it
 abbrev pub numberFor : List ℕ → ℕ
-numberFor s = readRefusal s 1 4
+numberFor s = readRefusal s 1 4 4
 
 abbrev pub values : List ℕ
 values = 5 ∷ 0 ∷ 253 ∷ 255 ∷ 2 ∷ 0 ∷ 7 ∷ 0 ∷ []
 
--- each condition of a record, in its order: empty; first byte 08, of one byte and of two; one byte; m = 1; one byte too many; map 10 hex;
--- list size 0 and 33; stop position 5; soft values -2,049 and 2,048; and records with nothing wrong, the first with -2,048
+-- each condition of a record, in its order: empty; first byte 10 and 20 hex, of one byte and of two; one byte; m = 1; one byte too many;
+-- map 10 hex; list size 0 and 33; stop position 5; soft values -2,049 and 2,048; and records with nothing wrong, the first with -2,048
 unfoldable pub records : List (List ℕ)
 records =
     []
-    ∷ (8 ∷ [])
-    ∷ (8 ∷ 1 ∷ [])
+    ∷ (16 ∷ [])
+    ∷ (32 ∷ [])
+    ∷ (32 ∷ 1 ∷ [])
     ∷ (7 ∷ [])
     ∷ (7 ∷ 1 ∷ [])
     ∷ ((7 ∷ 2 ∷ 0 ∷ 5 ∷ 0 ∷ 1 ∷ 2 ∷ 3 ∷ 4 ∷ 16 ∷ 9 ∷ []) ++ values)
@@ -66,6 +70,44 @@ records =
     ∷ ((7 ∷ 2 ∷ 32 ∷ 4 ∷ 0 ∷ 1 ∷ 2 ∷ 3 ∷ 4 ∷ 15 ∷ []) ++ values)
     ∷ []
 
-pub refused-in-order : map numberFor records ≡ 13 ∷ 14 ∷ 14 ∷ 13 ∷ 1 ∷ 13 ∷ 3 ∷ 4 ∷ 4 ∷ 5 ∷ 7 ∷ 7 ∷ 0 ∷ 0 ∷ []
-unfolding records readRefusal first some pastEnd unpacked bitsOf softFrom
+pub refused-in-order : map numberFor records ≡ 13 ∷ 14 ∷ 14 ∷ 14 ∷ 13 ∷ 1 ∷ 13 ∷ 3 ∷ 4 ∷ 4 ∷ 5 ∷ 7 ∷ 7 ∷ 0 ∷ 0 ∷ []
+unfolding records readRefusal first some pastEnd unpacked bitsOf frozen softFrom
 refused-in-order = refl
+
+-- ---- pairs: n = 4, frozen map 3, then what follows, then four soft values of 0
+abbrev pub withPairs : List ℕ → List ℕ
+withPairs pairs = 8 ∷ 2 ∷ 3 ∷ (pairs ++ replicate 8 0)
+
+-- the pair (1, 0), written to a third slice of 5 bytes
+pub pair-read : readOutcome (withPairs (1 ∷ 0 ∷ 1 ∷ 0 ∷ 0 ∷ 0 ∷ [])) (9 ∷ []) (pos 9 ∷ pos 9 ∷ pos 9 ∷ pos 9 ∷ []) (9 ∷ 9 ∷ 9 ∷ 9 ∷ 9 ∷ [])
+    ≡ reading (job 2 4 4 0 1) (3 ∷ []) (replicate 4 (pos 0)) (1 ∷ 0 ∷ 0 ∷ 0 ∷ 0 ∷ [])
+unfolding readOutcome readRefusal readServed first some pastEnd unpacked bitsOf frozen softFrom
+pair-read = refl
+
+-- and refused for want of room where that slice has three
+pub third-slice : readRefusal (withPairs (1 ∷ 0 ∷ 1 ∷ 0 ∷ 0 ∷ 0 ∷ [])) 1 4 3 ≡ 10
+unfolding readRefusal first some pastEnd unpacked bitsOf frozen softFrom
+third-slice = refl
+
+unfoldable pub paired : List (List ℕ)
+paired =
+    (8 ∷ [])  -- 13: one byte
+    ∷ (8 ∷ 1 ∷ [])  -- 1
+    ∷ (8 ∷ 2 ∷ 3 ∷ [])  -- 13: ends before the count
+    ∷ (8 ∷ 2 ∷ 3 ∷ 1 ∷ [])  -- 13: ends inside the count
+    ∷ (8 ∷ 2 ∷ 3 ∷ 1 ∷ 1 ∷ [])  -- 15: count 257, before the final length
+    ∷ (8 ∷ 2 ∷ 3 ∷ 0 ∷ 1 ∷ [])  -- 13: count 256, no pair
+    ∷ (8 ∷ 2 ∷ 19 ∷ 1 ∷ 0 ∷ [])  -- 13: count 1, no pair, and a map bit at n
+    ∷ withPairs (0 ∷ 0 ∷ [])  -- 0: no pair
+    ∷ withPairs (1 ∷ 0 ∷ 1 ∷ 0 ∷ 0 ∷ 0 ∷ [])  -- 0: the pair (1, 0)
+    ∷ withPairs (1 ∷ 0 ∷ 0 ∷ 0 ∷ 0 ∷ 0 ∷ [])  -- 15: e not below f
+    ∷ withPairs (1 ∷ 0 ∷ 2 ∷ 0 ∷ 0 ∷ 0 ∷ [])  -- 15: f not frozen
+    ∷ withPairs (1 ∷ 0 ∷ 1 ∷ 1 ∷ 0 ∷ 0 ∷ [])  -- 15: f past n
+    ∷ withPairs (2 ∷ 0 ∷ 1 ∷ 0 ∷ 0 ∷ 0 ∷ 1 ∷ 0 ∷ 0 ∷ 0 ∷ [])  -- 15: the same pair twice
+    ∷ (8 ∷ 2 ∷ 19 ∷ 1 ∷ 0 ∷ 0 ∷ 0 ∷ 0 ∷ 0 ∷ replicate 8 0)  -- 3 before 15
+    ∷ (9 ∷ 2 ∷ 0 ∷ 3 ∷ 1 ∷ 0 ∷ 0 ∷ 0 ∷ 0 ∷ 0 ∷ replicate 8 0)  -- 15 before 4
+    ∷ []
+
+pub pairs-in-order : map numberFor paired ≡ 13 ∷ 1 ∷ 13 ∷ 13 ∷ 15 ∷ 13 ∷ 13 ∷ 0 ∷ 0 ∷ 15 ∷ 15 ∷ 15 ∷ 15 ∷ 3 ∷ 15 ∷ []
+unfolding paired readRefusal first some pastEnd unpacked bitsOf frozen softFrom
+pairs-in-order = refl

@@ -1,4 +1,4 @@
-// The reader for a host that has no enum: the answer as five numbers.
+// The reader for a host that has no enum: the answer as six numbers.
 use crate::Job;
 use crate::read_job;
 ghost use mathlib.Core.Path.{_≡_};
@@ -13,18 +13,20 @@ pub struct JobFields {
     pub list_size: u32,
     pub stop: u32,
     pub frame: u32,
+    pub pairs: u32,
 }
 
 fn fields_for_host(job: Job) -> JobFields
     ensures { λ r. ⌜ r ≡ fieldsOf (jobOf job) ⌝ }
 {
     match job {
-        Job::Fields(m, l, p, frame) => JobFields {
+        Job::Fields(m, l, p, frame, count) => JobFields {
             refusal: 0,
             m: m,
             list_size: l,
             stop: p,
             frame: frame,
+            pairs: count,
         },
         Job::Refused(k) => JobFields {
             refusal: k,
@@ -32,15 +34,21 @@ fn fields_for_host(job: Job) -> JobFields
             list_size: 0,
             stop: 0,
             frame: 0,
+            pairs: 0,
         },
     }
 }
 
 // read_job, answered by JobFields.
-pub fn read_job_fields(bytes: &[u8], map: &mut [u8], soft: &mut [i16]) -> JobFields
-    ensures { λ r. ⌜ hostReading r (now (map .exit)) (now (soft .exit))
-        ≡ forHost (readOutcome (now (bytes .entry)) (now (map .entry)) (now (soft .entry))) ⌝ }
+pub fn read_job_fields(
+    bytes: &[u8],
+    map: &mut [u8],
+    soft: &mut [i16],
+    pairs: &mut [u8],
+) -> JobFields
+    ensures { λ r. ⌜ hostReading r (now (map .exit)) (now (soft .exit)) (now (pairs .exit))
+        ≡ forHost (readOutcome (now (bytes .entry)) (now (map .entry)) (now (soft .entry)) (now (pairs .entry))) ⌝ }
 {
-    let job = read_job(bytes, map, soft);
+    let job = read_job(bytes, map, soft, pairs);
     fields_for_host(job)
 }

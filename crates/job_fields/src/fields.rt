@@ -2,9 +2,9 @@
 use crate::layout::Layout;
 use crate::layout::frame_at;
 use crate::layout::stop_at;
-use crate::numbers::four;
-use crate::numbers::two;
-use crate::numbers::wide;
+use numbers::four;
+use numbers::two;
+use numbers::wide;
 ghost use mathlib.Core.Path.{_≡_};
 ghost use Rattle.spec.specs.Record.{listSize, stopPosition, frameNumber};
 ghost use Rattle.job_fields.specs.Laid.{Laid};

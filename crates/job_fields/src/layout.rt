@@ -1,17 +1,18 @@
-// Where the parts of a record lie.
-use crate::numbers::wide;
-use code::size;
+// Where the parts of a record lie. A bit of the map of fields is worth as much as its field has bytes, so the bits below a field's own say
+// how far behind m it begins.
 ghost use mathlib.Core.Path.{_≡_};
-ghost use Prim.Native.Nat.{_≤_};
+ghost use Prim.Native.Nat.{_+_, _≤_};
+ghost use Rattle.spec.specs.Code.{mapBytes};
 ghost use Rattle.spec.specs.Record.{stopAt, frameAt, mapAt};
-ghost use Rattle.job_fields.specs.Laid.{Shaped, Laid};
 
-// The map of fields, m, n, and where the frozen map and the soft values begin.
+// The map of fields, m, n, the number of pairs, and where the frozen map, the pairs and the soft values begin.
 pub struct Layout {
     pub fields: u32,
     pub m: u32,
     pub n: usize,
+    pub count: u32,
     pub map: usize,
+    pub pairs: usize,
     pub soft: usize,
 }
 
@@ -24,29 +25,19 @@ pub(crate) fn stop_at(fields: u32) -> usize
 pub(crate) fn frame_at(fields: u32) -> usize
     ensures { λ r. ⌜ (r ≡ frameAt fields) × (r ≤ 5) ⌝ }
 {
-    stop_at(fields) + 2 * ((fields / 2 % 2) as usize)
+    2 + (fields % 4) as usize
 }
 
 pub fn map_at(fields: u32) -> usize
     ensures { λ r. ⌜ (r ≡ mapAt fields) × (r ≤ 9) ⌝ }
 {
-    frame_at(fields) + 4 * ((fields / 4 % 2) as usize)
+    2 + (fields % 8) as usize
 }
 
-// The layout of a record whose length is right.
-pub fn locate(bytes: &[u8]) -> Layout
-    requires { ⌜ Shaped (now bytes) ⌝ }
-    ensures { λ r. ⌜ Laid (now (bytes .entry)) r ⌝ }
+// Where the frozen map of n positions ends.
+pub fn map_end(fields: u32, n: usize) -> usize
+    requires { ⌜ n ≤ 1024 ⌝ }
+    ensures { λ r. ⌜ (r ≡ mapAt fields + mapBytes n) × (r ≤ 137) ⌝ }
 {
-    let fields = wide(bytes[0]);
-    let m = wide(bytes[1]);
-    let n = size(m);
-    let map = map_at(fields);
-    Layout {
-        fields: fields,
-        m: m,
-        n: n,
-        map: map,
-        soft: map + (n + 7) / 8,
-    }
+    map_at(fields) + (n + 7) / 8
 }

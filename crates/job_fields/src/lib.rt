@@ -1,13 +1,12 @@
 // The parts of a job record: where they lie, and what its fields and soft values say.
 mod fields;
 mod layout;
-mod numbers;
+mod values;
 
 pub use fields::frame_number;
 pub use fields::list_size;
 pub use fields::stop_position;
 pub use layout::Layout;
-pub use layout::locate;
 pub use layout::map_at;
-pub use numbers::soft_value;
-pub use numbers::wide;
+pub use layout::map_end;
+pub use values::soft_value;

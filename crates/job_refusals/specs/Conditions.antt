@@ -1,37 +1,31 @@
--- The conditions that a record is refused for, in the parts that the code tests one after the other: shapeFaults, then fieldFaults as
--- mapAndRangeFaults and lentFaults.
+-- The conditions that the fields of a record are refused for, in the parts that the code tests one after the other: fieldFaults as
+-- codeAndRangeFaults and lentFaults.
 use mathlib.Core.List.{List, [], _∷_, _++_}
-use Prim.Native.Nat.{ℕ, _+_, _*_}
-use lib.ListN.{length}
-use Rattle.spec.specs.Code.{mapBytes}
+use Prim.Native.Nat.{ℕ, _*_}
+use Rattle.spec.specs.Code.{mapBytes, frozen}
 use Rattle.spec.specs.Faults.{Fault, fault, some}
-use Rattle.spec.specs.Refusals.{pastEnd, outOfRange, roomFault}
-use Rattle.spec.specs.Record.{exponent, positions, listSize, stopPosition, softAt, recordMap, recordSoft, shapeFaults}
-use Rattle.laws.specs.FirstFault.{First, none, later, Numbered, end, next, inside-of, same-of}
+use Rattle.spec.specs.Refusals.{pastEnd, outOfRange, pairFaults, roomFault}
+use Rattle.spec.specs.Record.{positions, listSize, stopPosition, pairCount, recordMap, recordPairs, recordCode, recordSoft}
+use Rattle.laws.specs.FirstFault.{Numbered, end, next}
 use Rattle.ranges.specs.Ranges.{rangeFaults, range-numbers}
-use Rattle.job_fields.specs.Laid.{Shaped}
 
 module _ (s : List ℕ) where
-  abbrev pub mapFaults : List Fault
-  mapFaults = fault 3 (pastEnd (positions s) (recordMap s)) ∷ []
+  abbrev pub recordCodeFaults : List Fault
+  recordCodeFaults = fault 3 (pastEnd (positions s) (recordMap s)) ∷ pairFaults (frozen (recordCode s)) (recordPairs s)
 
-  abbrev pub mapAndRangeFaults : List Fault
-  mapAndRangeFaults = mapFaults ++ rangeFaults (positions s) (listSize s) (stopPosition s)
+  abbrev pub codeAndRangeFaults : List Fault
+  codeAndRangeFaults = recordCodeFaults ++ rangeFaults (positions s) (listSize s) (stopPosition s)
 
-  abbrev pub lentFaults : ℕ → ℕ → List Fault
-  lentFaults maps softs = fault 7 (some outOfRange (recordSoft s)) ∷ roomFault (mapBytes (positions s)) maps ∷ roomFault (positions s) softs ∷ []
+  abbrev pub lentFaults : ℕ → ℕ → ℕ → List Fault
+  lentFaults maps softs pairs =
+      fault 7 (some outOfRange (recordSoft s))
+      ∷ roomFault (mapBytes (positions s)) maps
+      ∷ roomFault (positions s) softs
+      ∷ roomFault (4 * pairCount s) pairs
+      ∷ []
 
-  abbrev pub shape-numbers : Numbered (shapeFaults s)
-  shape-numbers = next (next (next (next (next end))))
+  abbrev pub record-code-numbers : Numbered recordCodeFaults
+  record-code-numbers = next (next (next (next end)))
 
-  abbrev pub map-numbers : Numbered mapFaults
-  map-numbers = next end
-
-  abbrev pub map-and-range-numbers : Numbered mapAndRangeFaults
-  map-and-range-numbers = next (range-numbers (positions s) (listSize s) (stopPosition s))
-
-  -- a record that is past the first part is as long as its fields need
-  pub shaped-of : First (shapeFaults s) 0 → Shaped s
-  shaped-of (later _ (later _ (later _ (later e (later f none))))) =
-      let m = inside-of 2 10 (exponent s) e in
-      record { low = m .0; high = m .1; whole = same-of (length s) (softAt s + 2 * positions s) f }
+  abbrev pub code-and-range-numbers : Numbered codeAndRangeFaults
+  code-and-range-numbers = next (next (next (next (range-numbers (positions s) (listSize s) (stopPosition s)))))

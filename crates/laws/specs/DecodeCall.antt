@@ -16,16 +16,16 @@ use Rattle.laws.specs.FirstFault.{First, later, of-first, inside-of, sam
 
 module _ (c : Code) (l p : ℕ) (soft : List ℤ) (r : Room) where
   pub list-in-range : First (decodeFaults c l p soft r) 0 → (1 ≤ l) × (l ≤ 32)
-  list-in-range (later a (later b (later d (later e f)))) = inside-of 1 32 l e
+  list-in-range (later a (later b (later d (later u (later v (later w (later e f))))))) = inside-of 1 32 l e
 
   pub stop-in-range : First (decodeFaults c l p soft r) 0 → p ≤ size c
-  stop-in-range (later a (later b (later d (later e (later h f))))) = ltb-false (size c) p h
+  stop-in-range (later a (later b (later d (later u (later v (later w (later e (later h f)))))))) = ltb-false (size c) p h
 
   pub map-right : First (decodeFaults c l p soft r) 0 → length (c .map) ≡ mapBytes (size c)
   map-right (later a (later b f)) = same-of (length (c .map)) (mapBytes (size c)) b
 
   pub soft-long : First (decodeFaults c l p soft r) 0 → length soft ≡ size c
-  soft-long (later a (later b (later d (later e (later h (later g f)))))) = same-of (length soft) (size c) g
+  soft-long (later a (later b (later d (later u (later v (later w (later e (later h (later g f))))))))) = same-of (length soft) (size c) g
 
   pub rows-at-most : First (decodeFaults c l p soft r) 0 → length (rows (codeTransform c) c (taken soft) l p) ≤ l
   rows-at-most f = omega (arith, row-count (codeTransform c) c (taken soft) l p (list-in-range f .0) (map-right f) (stop-in-range f))

@@ -15,6 +15,9 @@ pub mod Taken
 pub mod FirstFault
 pub mod MapBits
 pub mod FrozenMap
+pub mod Pairs
+pub mod PairRuns
+pub mod Inputs
 pub mod Accepted
 pub mod DecodeCall
 pub mod FullScale

@@ -6,15 +6,15 @@ use Prim.Native.Nat.{ℕ, zero, suc, _+_, _-_, _*_, _^_, _<_, _≤_}
 use native.Mathlib.Omega.{arith}
 use lib.ListN.{length, length-append, take, drop, getD, replicate, length-replicate}
 use lib.IntN.{ℤ}
-use lib.Dec.{T, ltb, leb, leb→le, le→leb, ltb→lt, lt→ltb, nleb→lt}
+use lib.Dec.{T, eqb, ltb, leb, leb→le, le→leb, ltb→lt, lt→ltb, nleb→lt}
 use lib.Arith.{lt→nleb}
 use lib.Signed.{leZ}
-use Rattle.spec.specs.Bits.{Bits, nil}
+use Rattle.spec.specs.Bits.{_⊕_, Bits, nil}
 use Rattle.spec.specs.Transform.{transform}
-use Rattle.spec.specs.Code.{Code, size, frozen, codeTransform}
+use Rattle.spec.specs.Code.{Code, size, frozen, Pair, pairsIn, sumAt, frozenBit, codeTransform}
 use Rattle.spec.specs.Score.{score}
 use Rattle.spec.specs.Decoder.{insertBy, sortBy, lexBefore, ahead, continued, children, families, liveBy, live, scoreOf}
-use Rattle.laws.specs.BitLaws.{bits-snoc}
+use Rattle.laws.specs.BitLaws.{bits-snoc, bits-at, ⊕-lt}
 use Rattle.laws.specs.Cost.{cost, magnitude}
 use Rattle.laws.specs.ScoreCost.{leZ-sub, score-is}
 
@@ -110,9 +110,9 @@ pub goes : (c : Code) (i : ℕ) (w : List ℕ) → Goes w (children c i w)
 unfolding children
 goes c i w = by-flag (getD (frozen c) i 0)
   where
-    by-flag : (f : ℕ) → Goes w (continued f w)
+    by-flag : (f : ℕ) → Goes w (continued f (frozenBit c i w) w)
     by-flag zero = both
-    by-flag (suc f) = by 0
+    by-flag (suc f) = by (frozenBit c i w)
 
 -- ---- the prefixes after i positions have i bits
 abbrev pub Long : ℕ → List ℕ → Type 0
@@ -153,15 +153,27 @@ module _ (c : Code) (y : List ℤ) (l : ℕ) (ey : length y ≡ size c) where
   unfolding liveBy
   live-by-cost i h = ap (take l) (sorted-by-cost i h)
 
--- ---- and are words of bits
-pub continued-bits : (f : ℕ) (w : List ℕ) → Bits w → All Bits (continued f w)
-continued-bits zero w b = more (bits-snoc 0 b (omega arith)) (more (bits-snoc 1 b (omega arith)) none)
-continued-bits (suc f) w b = more (bits-snoc 0 b (omega arith)) none
+-- ---- and are words of bits, since a sum of bits is one
+sum-lt : (ps : List Pair) (i : ℕ) {w : List ℕ} → Bits w → sumAt ps i w < 2
+sum-lt [] i t = omega arith
+sum-lt (p ∷ ps) i {w} t = go (eqb (p .f) i) (sum-lt ps i t)
+  where
+    go : (b : Bool) → sumAt ps i w < 2 → cond b (getD w (p .e) 0 ⊕ sumAt ps i w) (sumAt ps i w) < 2
+    go true ih = ⊕-lt (getD w (p .e) 0) (sumAt ps i w) (bits-at t (p .e))
+    go false ih = ih
+
+pub frozen-lt : (c : Code) (i : ℕ) {w : List ℕ} → Bits w → frozenBit c i w < 2
+unfolding frozenBit
+frozen-lt c i t = sum-lt (pairsIn (c .pairs)) i t
+
+continued-bits : (f b : ℕ) (w : List ℕ) → b < 2 → Bits w → All Bits (continued f b w)
+continued-bits zero b w h t = more (bits-snoc 0 t (omega arith)) (more (bits-snoc 1 t (omega arith)) none)
+continued-bits (suc f) b w h t = more (bits-snoc b t h) none
 
 module _ (T : List ℕ → List ℕ) (c : Code) (y : List ℤ) (l : ℕ) where
   pub live-bits : (i : ℕ) → All Bits (live T c y l i)
   unfolding children
-  live-bits = live-all (scoreOf T c y l) (children c) l {P = λ _. Bits} nil (λ i. continued-bits (getD (frozen c) i 0))
+  live-bits = live-all (scoreOf T c y l) (children c) l {P = λ _. Bits} nil (λ i w t. continued-bits (getD (frozen c) i 0) (frozenBit c i w) w (frozen-lt c i t) t)
 
 -- at each rank
 pub all-at : {A : Type 0} {P : A → Type 0} (d : A) {xs : List A} → All P xs → (r : ℕ) → r < length xs → P (getD xs r d)

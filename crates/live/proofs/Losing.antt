@@ -2,7 +2,7 @@
 -- Assumes nothing.
 use mathlib.Core.Path.{_≡_, refl}
 use mathlib.Core.List.{List, [], _∷_}
-use Prim.Native.Nat.{ℕ, zero, suc, _+_, _≤_, _<_, min}
+use Prim.Native.Nat.{ℕ, zero, suc, _+_, _%_, _≤_, _<_, min}
 use native.Mathlib.Omega.{arith}
 use native.Mathlib.Numerals.{add-one}
 use lib.ListN.{length, take, drop, getD, length-append, drop-of-length-le}
@@ -44,10 +44,12 @@ last-lost l a xs h =
     rw (add-one, slice-cons l (suc l) xs 0 (omega arith) h, slice-empty (suc l) xs)
 
 -- at a frozen position there are no more children than entries
-one-each : (f : ℕ) (xs cs ds : List ℕ) (i : ℕ) → length (childrenOf (suc f) xs cs ds i) ≡ i
-one-each f xs cs ds zero = refl
-one-each f xs cs ds (suc i) = omega (arith, length-append (childrenOf (suc f) xs cs ds i) (branches (suc f) (childOf xs 0 cs i) (childOf xs 1 ds i)), one-each f xs cs ds i)
+one-each : (f : ℕ) (xs bs cs ds : List ℕ) (i : ℕ) → length (childrenOf (suc f) xs bs cs ds i) ≡ i
+one-each f xs bs cs ds zero = refl
+one-each f xs bs cs ds (suc i) =
+    omega (arith, length-append (childrenOf (suc f) xs bs cs ds i) (branches (suc f) (childOf xs (getD bs i 0 % 2) cs i) (childOf xs 1 ds i)), one-each f xs bs cs ds i)
 
-pub none-lost : (f l : ℕ) (xs cs ds : List ℕ) (i : ℕ) → i ≤ l → drop l (sortBy leb (childrenOf (suc f) xs cs ds i)) ≡ []
-none-lost f l xs cs ds i h =
-    drop-of-length-le (sortBy leb (childrenOf (suc f) xs cs ds i)) {i = l} (omega (arith, length-sort leb (childrenOf (suc f) xs cs ds i), one-each f xs cs ds i))
+pub none-lost : (f l : ℕ) (xs bs cs ds : List ℕ) (i : ℕ) → i ≤ l → drop l (sortBy leb (childrenOf (suc f) xs bs cs ds i)) ≡ []
+none-lost f l xs bs cs ds i h =
+    drop-of-length-le (sortBy leb (childrenOf (suc f) xs bs cs ds i)) {i = l}
+    (omega (arith, length-sort leb (childrenOf (suc f) xs bs cs ds i), one-each f xs bs cs ds i))

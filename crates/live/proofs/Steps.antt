@@ -4,7 +4,7 @@
 use mathlib.Core.Path.{_≡_, refl, sym, ap, _∙_}
 use mathlib.Core.Bool.{Bool}
 use mathlib.Core.List.{List, [], _∷_, _++_, map, map-append, append-nil, append-assoc}
-use Prim.Native.Nat.{ℕ, zero, suc, _+_, _*_, _≤_, _<_}
+use Prim.Native.Nat.{ℕ, zero, suc, _+_, _*_, _%_, _≤_, _<_}
 use native.Mathlib.Omega.{arith}
 use native.Mathlib.Nat.{le-refl}
 use lib.ListN.{length, take, drop, getD, length-append, length-map}
@@ -13,12 +13,12 @@ use lib.Dec.{leb}
 use Rattle.spec.specs.Decoder.{sortBy, lexBefore, continued, families}
 use Rattle.laws.specs.ListCost.{cheaper, All, none, more, all-sort, all-take, all-drop, all-append, Long}
 use Rattle.laws.specs.CeilingCost.{leastOf}
-use Rattle.live.specs.Entries.{codeOf, costOf, placeOf, bitOf, parentOf, lexOf, branches, childrenOf}
+use Rattle.live.specs.Entries.{codeOf, costOf, placeOf, bitOf, parentOf, lexOf, branches, firstOf, childrenOf}
 use Rattle.live.specs.Rising.{Pairs, none₂, more₂}
 use Rattle.live.specs.Lists.{entries, entries-count, Holds}
 use Rattle.live.specs.Lost.{lostWith}
 use Rattle.live.specs.declared.Live.{Live}
-use Rattle.live.specs.Stands.{Rep, Bred, Step, CostsAre, Kept, Position}
+use Rattle.live.specs.Stands.{Rep, Bred, Step, CostsAre, BitsAre, Kept, Position}
 use Rattle.live.proofs.Sorting.{all-map, all-at, pairs-of, pairs-append, sort-agree, all-under, getD-map, map-take, map-drop, map-sort, maps-agree}
 use Rattle.live.proofs.Lexical.{lex-child, lex-lt, lex-agree, place-code, code-order}
 
@@ -153,9 +153,9 @@ same-branches : (f a b c d : ℕ) → a ≡ c → (f ≡ 0 → b ≡ d) → bran
 same-branches zero a b c d p q = rw (p, q refl)
 same-branches (suc f) a b c d p q = rw p
 
-continued-is : (f : ℕ) (w : List ℕ) → continued f w ≡ branches f (w ++ 0 ∷ []) (w ++ 1 ∷ [])
-continued-is zero w = refl
-continued-is (suc f) w = refl
+continued-is : (f b : ℕ) (w : List ℕ) → continued f b w ≡ branches f (w ++ firstOf f b ∷ []) (w ++ 1 ∷ [])
+continued-is zero b w = refl
+continued-is (suc f) b w = refl
 
 families-snoc : (g : List ℕ → List (List ℕ)) (ws : List (List ℕ)) (w : List ℕ) → families g (ws ++ w ∷ []) ≡ families g ws ++ g w
 families-snoc g [] w = append-nil (g w)
@@ -164,58 +164,67 @@ families-snoc g (v ∷ ws) w = rw (families-snoc g ws w, append-assoc)
 abbrev to : ℕ → ℕ → Child
 to b i = record { at = i; bit = b }
 
-module _ (f : ℕ) where
+-- B gives the bit of the first child by rank
+module _ (f : ℕ) (B : ℕ → ℕ) (B≤ : (i : ℕ) → B i ≤ 1) where
   childList : ℕ → List Child
   childList zero = []
-  childList (suc i) = childList i ++ branches f (to 0 i) (to 1 i)
+  childList (suc i) = childList i ++ branches f (to (B i) i) (to 1 i)
 
   list-good : (m i : ℕ) → i ≤ m → All (Good m) (childList i)
   unfolding childList
   list-good m zero h = none
   list-good m (suc i) h =
       all-append (list-good m i (omega arith))
-      (all-branches (Good m) f (to 0 i) (to 1 i) (record { at< = omega arith; bit≤ = omega arith }) (record { at< = omega arith; bit≤ = omega arith }))
+      (all-branches (Good m) f (to (B i) i) (to 1 i) (record { at< = omega arith; bit≤ = B≤ i }) (record { at< = omega arith; bit≤ = omega arith }))
 
-  after : (i : ℕ) (k : Child) → Good i k → All (λ (b : Child). k .at ≤ b .at) (branches f (to 0 i) (to 1 i))
+  after : (i : ℕ) (k : Child) → Good i k → All (λ (b : Child). k .at ≤ b .at) (branches f (to (B i) i) (to 1 i))
   after i k g =
       let h : k .at < i = g .at< in
-      all-branches (λ (b : Child). k .at ≤ b .at) f (to 0 i) (to 1 i) (omega arith) (omega arith)
+      all-branches (λ (b : Child). k .at ≤ b .at) f (to (B i) i) (to 1 i) (omega arith) (omega arith)
 
   list-order : (i : ℕ) → Pairs (λ (a b : Child). a .at ≤ b .at) (childList i)
   unfolding childList
   list-order zero = none₂
   list-order (suc i) = pairs-append (list-order i) (go f) (all-map (after i) (list-good i i (omega arith)))
     where
-      go : (f : ℕ) → Pairs (λ (a b : Child). a .at ≤ b .at) (branches f (to 0 i) (to 1 i))
+      go : (f : ℕ) → Pairs (λ (a b : Child). a .at ≤ b .at) (branches f (to (B i) i) (to 1 i))
       go zero = more₂ (more (le-refl i) none) (more₂ none none₂)
       go (suc f) = more₂ none none₂
 
-  list-prefixes : (ps : List (List ℕ)) (i : ℕ) → i ≤ length ps → map (prefixAt ps) (childList i) ≡ families (continued f) (take i ps)
-  unfolding childList
-  list-prefixes ps zero h = refl
-  list-prefixes ps (suc i) h =
-      rw (
-        map-append (prefixAt ps) (childList i),
-        list-prefixes ps i (omega arith),
-        map-branches (prefixAt ps) f (to 0 i) (to 1 i),
-        take-suc ps i [] h,
-        families-snoc (continued f) (take i ps) (getD ps i []),
-        continued-is f (getD ps i []),
-      )
+  module _ (rule : List ℕ → ℕ) where
+    abbrev kids : List ℕ → List (List ℕ)
+    kids w = continued f (rule w) w
 
-  all-prefixes : (ps : List (List ℕ)) → map (prefixAt ps) (childList (length ps)) ≡ families (continued f) ps
-  all-prefixes ps = list-prefixes ps (length ps) (omega arith) ∙ ap (families (continued f)) (take-length ps)
+    list-prefixes : (ps : List (List ℕ)) → ((i : ℕ) → i < length ps → B i ≡ firstOf f (rule (getD ps i []))) → (i : ℕ) → i ≤ length ps
+        → map (prefixAt ps) (childList i) ≡ families kids (take i ps)
+    unfolding childList
+    list-prefixes ps own zero h = refl
+    list-prefixes ps own (suc i) h =
+        rw (
+          map-append (prefixAt ps) (childList i),
+          list-prefixes ps own i (omega arith),
+          map-branches (prefixAt ps) f (to (B i) i) (to 1 i),
+          take-suc ps i [] h,
+          families-snoc kids (take i ps) (getD ps i []),
+          continued-is f (rule (getD ps i [])) (getD ps i []),
+          own i h,
+        )
 
-  module _ (cost : List ℕ → ℕ) (ps : List (List ℕ)) (xs cs ds : List ℕ) (zeros : CostsAre cost 0 cs ps) (ones : f ≡ 0 → CostsAre cost 1 ds ps) where
-    list-codes : (i : ℕ) → i ≤ length ps → map (codeAt cost ps xs) (childList i) ≡ childrenOf f xs cs ds i
+    all-prefixes : (ps : List (List ℕ)) → ((i : ℕ) → i < length ps → B i ≡ firstOf f (rule (getD ps i [])))
+        → map (prefixAt ps) (childList (length ps)) ≡ families kids ps
+    all-prefixes ps own = list-prefixes ps own (length ps) (omega arith) ∙ ap (families kids) (take-length ps)
+
+  module _ (cost : List ℕ → ℕ) (ps : List (List ℕ)) (xs bs cs ds : List ℕ) (is : (i : ℕ) → B i ≡ getD bs i 0 % 2) (zeros : CostsAre cost (λ i. getD bs i 0 % 2) cs ps)
+      (ones : f ≡ 0 → CostsAre cost (λ i. 1) ds ps) where
+    list-codes : (i : ℕ) → i ≤ length ps → map (codeAt cost ps xs) (childList i) ≡ childrenOf f xs bs cs ds i
     unfolding childList
     list-codes zero h = refl
     list-codes (suc i) h =
-        rw (map-append (codeAt cost ps xs) (childList i), list-codes i (omega arith), map-branches (codeAt cost ps xs) f (to 0 i) (to 1 i))
-        (ap (childrenOf f xs cs ds i ++_) (same-branches f _ _ _ _ (rw (zeros i h)) (λ e. rw (ones e i h))))
+        rw (map-append (codeAt cost ps xs) (childList i), list-codes i (omega arith), map-branches (codeAt cost ps xs) f (to (B i) i) (to 1 i))
+        (ap (childrenOf f xs bs cs ds i ++_) (same-branches f _ _ _ _ (rw (is i, zeros i h)) (λ e. rw (ones e i h))))
 
-    all-codes : (m : ℕ) → length ps ≡ m → map (codeAt cost ps xs) (childList (length ps)) ≡ childrenOf f xs cs ds m
-    all-codes m e = list-codes (length ps) (omega arith) ∙ ap (childrenOf f xs cs ds) e
+    all-codes : (m : ℕ) → length ps ≡ m → map (codeAt cost ps xs) (childList (length ps)) ≡ childrenOf f xs bs cs ds m
+    all-codes m e = list-codes (length ps) (omega arith) ∙ ap (childrenOf f xs bs cs ds) e
 
 -- ---- the start: the empty prefix alone
 pub start-rep : Rep 0 ([] ∷ []) (0 ∷ [])
@@ -228,22 +237,28 @@ start-rep = record { counted = refl; sized = more refl none; agree = go }
     go (suc i) (suc j) h k = absurd (omega arith)
 
 -- ---- the position
-module _ (f l : ℕ) (cs ds : List ℕ) (s r : Live) (long : length (s .code) ≡ 33) (few : s .count ≤ 32) where
+module _ (f l : ℕ) (bs cs ds : List ℕ) (s r : Live) (long : length (s .code) ≡ 33) (few : s .count ≤ 32) where
   abbrev children : List ℕ
-  children = sortBy leb (childrenOf f (entries s) cs ds (s .count))
+  children = sortBy leb (childrenOf f (entries s) bs cs ds (s .count))
+
+  abbrev B : ℕ → ℕ
+  B i = getD bs i 0 % 2
+
+  small : (i : ℕ) → B i ≤ 1
+  small i = omega arith
 
   -- what a list keeps and loses of the children's entries, it keeps and loses of the children
-  pub position : Holds r l (take l children) → r .lost ≡ lostWith (s .lost) (drop l children) → Position f l cs ds s r
+  pub position : Holds r l (take l children) → r .lost ≡ lostWith (s .lost) (drop l children) → Position f l bs cs ds s r
   position h lost = record { holds = h; keeps = keeps }
     where
-      keeps : (cost : List ℕ → ℕ) (n : ℕ) (ps : List (List ℕ)) → Rep n ps (entries s) → CostsAre cost 0 cs ps → (f ≡ 0 → CostsAre cost 1 ds ps)
-          → Kept cost (n + 1) l ps (sortBy (cheaper cost) (families (continued f) ps)) s r
-      keeps cost n ps R zeros ones =
+      keeps : (cost rule : List ℕ → ℕ) (n : ℕ) (ps : List (List ℕ)) → Rep n ps (entries s) → BitsAre f rule bs ps → CostsAre cost B cs ps
+          → (f ≡ 0 → CostsAre cost (λ i. 1) ds ps) → Kept cost (n + 1) l ps (sortBy (cheaper cost) (families (λ w. continued f (rule w) w) ps)) s r
+      keeps cost rule n ps R own firsts ones =
           let e : length ps ≡ s .count = sym (R .counted) ∙ entries-count s long (omega arith) in
-          let p = all-prefixes f ps in
-          let q = all-codes f cost ps (entries s) cs ds zeros ones (s .count) e in
-          let o = sorted cost n ps (entries s) R (omega arith) (childList f (length ps)) (list-good f (length ps) (length ps) (omega arith)) (list-order f (length ps)) in
-          let rest : map costOf (drop l children) ≡ map cost (drop l (sortBy (cheaper cost) (families (continued f) ps)))
+          let p = all-prefixes f B small rule ps own in
+          let q = all-codes f B small cost ps (entries s) bs cs ds (λ i. refl) firsts ones (s .count) e in
+          let o = sorted cost n ps (entries s) R (omega arith) (childList f B small (length ps)) (list-good f B small (length ps) (length ps) (omega arith)) (list-order f B small (length ps)) in
+          let rest : map costOf (drop l children) ≡ map cost (drop l (sortBy (cheaper cost) (families (λ w. continued f (rule w) w) ps)))
           = rw (← p, ← q) (rest-costs cost n ps (entries s) R (omega arith) l o) in
           record {
             step = rw (h .are, ← p, ← q) (best-step cost n ps (entries s) R (omega arith) l o);

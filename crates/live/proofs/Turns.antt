@@ -3,9 +3,9 @@
 use mathlib.Core.Path.{_≡_, refl, sym, ap, _∙_}
 use mathlib.Core.Bool.{true, false}
 use mathlib.Core.List.{List}
-use Prim.Native.Nat.{ℕ, zero, suc, _+_, _*_, _≤_, _<_}
+use Prim.Native.Nat.{ℕ, zero, suc, _+_, _*_, _%_, _≤_, _<_}
 use native.Mathlib.Numerals.{add-one}
-use native.Mathlib.Nat.{zero-add, add-zero}
+use native.Mathlib.Nat.{zero-add}
 use native.Mathlib.Omega.{arith}
 use lib.ListN.{length, take, getD, length-take}
 use lib.Seq.{slice, slice-cons, getD-take, take-take, take-all, length-take-le}
@@ -75,12 +75,11 @@ pub holds : (s : Live) (l : ℕ) (xs : List ℕ) → length (s .code) ≡ 33 →
 holds s l xs long h few e = record { few = few; are = e; counted = entries-count s long h }
 
 -- ---- the children of entry i, by its lexicographic number x, are put in
-pub children-turn : (f l n i x z w : ℕ) (a cs ds o o′ : List ℕ) → i < n
-    → o ≡ take l (sortBy leb (childrenOf f (take n a) cs ds i))
-    → x ≡ lexOf (take n a) (getD a i 0) → z ≡ codeOf (getD cs i 0) (2 * x) i → w ≡ codeOf (getD ds i 0) (2 * x + 1) i
+pub children-turn : (f l n i x b z w : ℕ) (a bs cs ds o o′ : List ℕ) → i < n
+    → o ≡ take l (sortBy leb (childrenOf f (take n a) bs cs ds i))
+    → x ≡ lexOf (take n a) (getD a i 0) → b ≡ 2 * x + getD bs i 0 % 2 → z ≡ codeOf (getD cs i 0) b i → w ≡ codeOf (getD ds i 0) (2 * x + 1) i
     → o′ ≡ take l (insertAll (branches f z w) o)
-    → o′ ≡ take l (sortBy leb (childrenOf f (take n a) cs ds (i + 1)))
-children-turn f l n i x z w a cs ds o o′ h e ex ez ew e′ =
-    let ez′ : z ≡ codeOf (getD cs i 0) (2 * x + 0) i = ez ∙ rw add-zero in
-    e′ ∙ rw (e, ez′, ew, ex, ← getD-take n a i 0 h, add-one i, sort-append (childrenOf f (take n a) cs ds i))
-    (take-insert-all l (branches f (childOf (take n a) 0 cs i) (childOf (take n a) 1 ds i)) (sortBy leb (childrenOf f (take n a) cs ds i)))
+    → o′ ≡ take l (sortBy leb (childrenOf f (take n a) bs cs ds (i + 1)))
+children-turn f l n i x b z w a bs cs ds o o′ h e ex eb ez ew e′ =
+    e′ ∙ rw (e, ez, eb, ew, ex, ← getD-take n a i 0 h, add-one i, sort-append (childrenOf f (take n a) bs cs ds i))
+    (take-insert-all l (branches f (childOf (take n a) (getD bs i 0 % 2) cs i) (childOf (take n a) 1 ds i)) (sortBy leb (childrenOf f (take n a) bs cs ds i)))

@@ -1,7 +1,7 @@
 -- What it is for entries to stand for prefixes, and for one position to lead from the prefixes ps to the prefixes qs.
 use mathlib.Core.Path.{_≡_}
 use mathlib.Core.List.{List, [], _∷_, _++_, map}
-use Prim.Native.Nat.{ℕ, _+_, _<_}
+use Prim.Native.Nat.{ℕ, _+_, _%_, _<_}
 use native.Mathlib.Omega.{arith}
 use lib.ListN.{length, take, drop, getD}
 use lib.Dec.{leb}
@@ -9,7 +9,7 @@ use Rattle.spec.specs.Decoder.{sortBy, lexBefore, continued, families}
 use Rattle.laws.specs.ListCost.{cheaper, All, Long}
 use Rattle.laws.specs.CeilingCost.{leastOf}
 use Rattle.live.specs.declared.Live.{Live}
-use Rattle.live.specs.Entries.{costOf, placeOf, bitOf, parentOf, childrenOf}
+use Rattle.live.specs.Entries.{costOf, placeOf, bitOf, parentOf, firstOf, childrenOf}
 use Rattle.live.specs.Lists.{entries, entries-at, Holds}
 
 -- the entries xs stand for the prefixes ps, each of n bits, rank by rank
@@ -30,9 +30,13 @@ pub record Step (cost : List ℕ → ℕ) (n : ℕ) (ps qs : List (List ℕ)) (x
   pub rep : Rep n qs xs
   pub bred : (i : ℕ) → i < length qs → Bred cost ps (getD qs i []) (getD xs i 0)
 
--- cs has, by rank, the costs of the children by the bit b of the prefixes ps
-abbrev pub CostsAre : (List ℕ → ℕ) → ℕ → List ℕ → List (List ℕ) → Type 0
-CostsAre cost b cs ps = (i : ℕ) → i < length ps → getD cs i 0 ≡ cost (getD ps i [] ++ b ∷ [])
+-- cs has, by rank, the costs of the children of the prefixes ps by the bits b
+abbrev pub CostsAre : (List ℕ → ℕ) → (ℕ → ℕ) → List ℕ → List (List ℕ) → Type 0
+CostsAre cost b cs ps = (i : ℕ) → i < length ps → getD cs i 0 ≡ cost (getD ps i [] ++ b i ∷ [])
+
+-- bs has, by rank, the bit of each prefix's first child, where rule gives the bit of a prefix at a frozen position
+abbrev pub BitsAre : ℕ → (List ℕ → ℕ) → List ℕ → List (List ℕ) → Type 0
+BitsAre f rule bs ps = (i : ℕ) → i < length ps → getD bs i 0 % 2 ≡ firstOf f (rule (getD ps i []))
 
 -- of the prefixes ws in order the first l stay in the list r, children of the prefixes ps, and the costs of the others are lost
 pub record Kept (cost : List ℕ → ℕ) (n l : ℕ) (ps ws : List (List ℕ)) (s r : Live) : Type 0 where
@@ -40,11 +44,13 @@ pub record Kept (cost : List ℕ → ℕ) (n l : ℕ) (ps ws : List (List ℕ)) 
   pub lost : r .lost ≡ leastOf (s .lost) (map cost (drop l ws))
 
 -- A position leads from the list s to the list r: frozen where f is not 0, else clear. The entries of r are the best l children of
--- those of s, and for any prefixes and costs of prefixes they stand for the best l of the children, and the others are lost.
-pub record Position (f l : ℕ) (cs ds : List ℕ) (s r : Live) : Type 0 where
-  pub holds : Holds r l (take l (sortBy leb (childrenOf f (entries s) cs ds (s .count))))
-  pub keeps : (cost : List ℕ → ℕ) (n : ℕ) (ps : List (List ℕ)) → Rep n ps (entries s) → CostsAre cost 0 cs ps → (f ≡ 0 → CostsAre cost 1 ds ps)
-      → Kept cost (n + 1) l ps (sortBy (cheaper cost) (families (continued f) ps)) s r
+-- those of s, and for any prefixes, costs of prefixes and rule for their bits they stand for the best l of the children, and the others are
+-- lost.
+pub record Position (f l : ℕ) (bs cs ds : List ℕ) (s r : Live) : Type 0 where
+  pub holds : Holds r l (take l (sortBy leb (childrenOf f (entries s) bs cs ds (s .count))))
+  pub keeps : (cost rule : List ℕ → ℕ) (n : ℕ) (ps : List (List ℕ)) → Rep n ps (entries s) → BitsAre f rule bs ps
+      → CostsAre cost (λ i. getD bs i 0 % 2) cs ps → (f ≡ 0 → CostsAre cost (λ i. 1) ds ps)
+      → Kept cost (n + 1) l ps (sortBy (cheaper cost) (families (λ w. continued f (rule w) w) ps)) s r
 
 -- the entry at a rank r, as the code reads it, tells of the prefix at that rank
 pub bred-at : {cost : List ℕ → ℕ} {n : ℕ} {ps qs : List (List ℕ)} (s : Live) (r : ℕ)

@@ -4,8 +4,8 @@
 // Where a place has reached 2^26, one more bit would not fit, and the parents' places are counted anew, by rank.
 ghost use mathlib.Core.Path.{_≡_};
 ghost use mathlib.Core.List.{[], _∷_};
-ghost use Prim.Native.Nat.{_+_, _-_, _≤_, _<_, min};
-ghost use lib.ListN.{length, take, getD};
+ghost use Prim.Native.Nat.{_+_, _-_, _*_, _%_, _≤_, _<_, min};
+ghost use lib.ListN.{length, take, getD, replicate};
 ghost use lib.Dec.{leb};
 ghost use Rattle.spec.specs.Decoder.{insertBy};
 ghost use Rattle.live.specs.Entries.{codeOf, costOf, placeOf, bitOf, parentOf, below, crowded, lexOf, branches};
@@ -53,6 +53,14 @@ fn entry(cost: u32, place: u64, parent: usize) -> u64
     ensures { λ r. ⌜ r ≡ codeOf cost place parent ⌝ }
 {
     (cost as u64) * 4294967296 + place * 32 + (parent as u64)
+}
+
+// The place of a child by a bit, from its parent's lexicographic number.
+fn child_place(x: u64, b: u8) -> u64
+    requires { ⌜ x < 67108864 ⌝ }
+    ensures { λ r. ⌜ (r ≡ 2 * x + b % 2) × (r < 134217728) ⌝ }
+{
+    2 * x + (b % 2) as u64
 }
 
 pub fn lesser(a: u32, b: u32) -> u32
@@ -144,12 +152,12 @@ fn put(a: &mut [u64; 33], n: usize, l: usize, v: u64) -> usize
     n + 1
 }
 
-// Puts the child by the bit 0 in and, at a clear position, the one by the bit 1.
-fn put_branches(a: &mut [u64; 33], n: usize, l: usize, frozen: u8, zero: u64, one: u64) -> usize
+// Puts the first child in and, at a clear position, the one by the bit 1.
+fn put_branches(a: &mut [u64; 33], n: usize, l: usize, frozen: u8, first: u64, one: u64) -> usize
     requires { ⌜ (n ≤ l) × (0 < l) × (l ≤ 33) × (length (now a) ≡ 33) × Rising (take n (now a)) ⌝ }
-    ensures { λ r. ⌜ Filled (now (a .exit)) r l (take l (insertAll (branches frozen zero one) (take n (now (a .entry))))) ⌝ }
+    ensures { λ r. ⌜ Filled (now (a .exit)) r l (take l (insertAll (branches frozen first one) (take n (now (a .entry))))) ⌝ }
 {
-    let m = put(a, n, l, zero);
+    let m = put(a, n, l, first);
     if frozen == 0 {
         return put(a, m, l, one);
     }
@@ -194,10 +202,18 @@ impl Live {
         self
     }
 
-    // The children of each entry, two or, at a frozen position, one: the best l, in order. What is left out of them is not counted.
-    fn extend(self, frozen: u8, zeros: &[u32; 32], ones: &[u32; 32], l: usize) -> Self
+    // The children of each entry, two or, at a frozen position, one: the best l, in order. The first goes on by a bit of `bits` at a
+    // cost of `firsts`, the second by 1 at a cost of `ones`. What is left out of them is not counted.
+    fn extend(
+        self,
+        frozen: u8,
+        bits: &[u8; 32],
+        firsts: &[u32; 32],
+        ones: &[u32; 32],
+        l: usize,
+    ) -> Self
         requires { ⌜ (self .count ≤ 32) × (0 < l) × (l ≤ 33) ⌝ }
-        ensures { λ r. ⌜ Spread frozen l (now (zeros .entry)) (now (ones .entry)) self r ⌝ }
+        ensures { λ r. ⌜ Spread frozen l (now (bits .entry)) (now (firsts .entry)) (now (ones .entry)) self r ⌝ }
     {
         let n = self.count;
         let lost = self.lost;
@@ -208,9 +224,10 @@ impl Live {
         let mut i = 0;
         while i < n {
             let x = lex(&code, n, anew, i);
-            let zero = entry(zeros[i], 2 * x, i);
+            let place = child_place(x, bits[i]);
+            let first = entry(firsts[i], place, i);
             let one = entry(ones[i], 2 * x + 1, i);
-            m = put_branches(&mut out, m, l, frozen, zero, one);
+            m = put_branches(&mut out, m, l, frozen, first, one);
             i += 1;
         }
         Self {
@@ -223,24 +240,25 @@ impl Live {
     // The two children of each entry, in order, as many as l + 1 of the best.
     pub fn split(self, zeros: &[u32; 32], ones: &[u32; 32], l: usize) -> Self
         requires { ⌜ (self .count ≤ 32) × (l ≤ 32) ⌝ }
-        ensures { λ r. ⌜ Spread 0 (l + 1) (now (zeros .entry)) (now (ones .entry)) self r ⌝ }
+        ensures { λ r. ⌜ Spread 0 (l + 1) (replicate 32 0) (now (zeros .entry)) (now (ones .entry)) self r ⌝ }
     {
-        self.extend(0, zeros, ones, l + 1)
+        let bits = [0u8; 32];
+        self.extend(0, &bits, zeros, ones, l + 1)
     }
 
     // A clear position: each path splits in two, and the best l of the children stay. The best of the others is the one that is cut off.
     pub fn clear(self, zeros: &[u32; 32], ones: &[u32; 32], l: usize) -> Self
         requires { ⌜ (self .count ≤ 32) × (l ≤ 32) ⌝ }
-        ensures { λ r. ⌜ Position 0 l (now (zeros .entry)) (now (ones .entry)) self r ⌝ }
+        ensures { λ r. ⌜ Position 0 l (replicate 32 0) (now (zeros .entry)) (now (ones .entry)) self r ⌝ }
     {
         self.split(zeros, ones, l).cut(l)
     }
 
-    // A frozen position: each path goes on by the bit 0 at its new cost, and none is lost.
-    pub fn freeze(self, zeros: &[u32; 32], l: usize) -> Self
+    // A frozen position: each path goes on by its own bit, at the cost of that, and none is lost.
+    pub fn freeze(self, bits: &[u8; 32], costs: &[u32; 32], l: usize) -> Self
         requires { ⌜ (self .count ≤ l) × (0 < l) × (l ≤ 32) ⌝ }
-        ensures { λ r. ⌜ Position 1 l (now (zeros .entry)) (now (zeros .entry)) self r ⌝ }
+        ensures { λ r. ⌜ Position 1 l (now (bits .entry)) (now (costs .entry)) (now (costs .entry)) self r ⌝ }
     {
-        self.extend(1, zeros, zeros, l)
+        self.extend(1, bits, costs, costs, l)
     }
 }

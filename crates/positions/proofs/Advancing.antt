@@ -1,7 +1,7 @@
 -- After one position everything stands for the next prefixes.
 use mathlib.Core.Path.{_≡_, refl, sym, ap, ap₂, subst, _∙_}
 use mathlib.Core.List.{List, [], _∷_, _++_}
-use Prim.Native.Nat.{ℕ, zero, suc, _+_, _*_, _%_, _<_, _≤_, _^_}
+use Prim.Native.Nat.{ℕ, suc, _+_, _*_, _%_, _<_, _≤_, _^_}
 use native.Mathlib.Omega.{arith}
 use native.Mathlib.Nat.{mod-eq-of-lt}
 use lib.ListN.{length, take, drop, getD}
@@ -24,15 +24,7 @@ use Rattle.positions.specs.Position.{Settled}
 use Rattle.rows.specs.DecodedRows.{prefixes}
 use Rattle.positions.specs.Running.{prefixAt, Running}
 use Rattle.positions.proofs.Stepping.{prefix-bits, prefix-long}
-
--- lists that agree at their first k places
-take-same : (k : ℕ) (b b′ : List ℕ) → length b′ ≡ length b → ((j : ℕ) → j < k → getD b′ j 0 ≡ getD b j 0) → take k b′ ≡ take k b
-take-same zero b b′ e h = refl
-take-same (suc k) [] [] e h = refl
-take-same (suc k) [] (y ∷ b′) e h = absurd (omega arith)
-take-same (suc k) (x ∷ b) [] e h = absurd (omega arith)
-take-same (suc k) (x ∷ b) (y ∷ b′) e h =
-    ap₂ (λ (z : ℕ) (r : List ℕ). z ∷ r) (h 0 (omega arith)) (take-same k b b′ (omega arith) (λ j l. h (suc j) (omega arith)))
+use Rattle.positions.proofs.Keeping.{take-same}
 
 module _ (c : Code) (y : List ℤ) (deep l h i at : ℕ) (s r : Live) (t b slots b′ slots′ t″ b″ slots″ : List ℕ)
     (list : l ≤ 32) (few : s .count ≤ l) (few′ : r .count ≤ l) (long : length (entries r) ≡ r .count) (low : slotStart 1 l l ≤ h) (place : at ≡ 3 * h + l * i)

@@ -2,6 +2,7 @@ mod Choosing
 mod Parents
 mod Fitting
 mod Stepping
+mod Keeping
 mod Advancing
 mod Starting
 mod Looping

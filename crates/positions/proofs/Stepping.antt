@@ -1,26 +1,28 @@
 -- One position of the loop is one position of the paper decoder.
 use mathlib.Core.Path.{_≡_, sym, ap, subst, _∙_}
 use mathlib.Core.List.{List, [], _∷_, _++_, map}
-use Prim.Native.Nat.{ℕ, suc, _+_, _*_, _<_, _^_}
+use Prim.Native.Nat.{ℕ, suc, _+_, _*_, _%_, _<_, _^_}
+use native.Mathlib.Nat.{mod-eq-of-lt}
 use native.Mathlib.Omega.{arith}
 use native.Mathlib.Numerals.{add-one}
 use lib.ListN.{length, take, drop, getD}
 use lib.Seq.{getD-take}
 use lib.IntN.{ℤ}
 use Rattle.spec.specs.Bits.{Bits, unpacked}
-use Rattle.spec.specs.Code.{Code, size, frozen, codeTransform}
+use Rattle.spec.specs.Code.{Code, size, frozen, frozenBit, codeTransform}
 use Rattle.spec.specs.Decoder.{children, continued, families, sortBy}
 use Rattle.laws.specs.Cost.{cost}
-use Rattle.laws.specs.ListCost.{cheaper, live-by-cost, live-long, live-bits, all-at}
+use Rattle.laws.specs.ListCost.{cheaper, live-by-cost, live-long, live-bits, frozen-lt, all-at}
 use Rattle.laws.specs.CeilingCost.{leastOf, lostCost, lost-more}
 use Rattle.tables.specs.Top.{topCost}
 use Rattle.tables.proofs.Reading.{top-right}
 use Rattle.live.specs.declared.Live.{Live}
 use Rattle.live.specs.Lists.{entries}
-use Rattle.live.specs.Stands.{Step, Kept}
+use Rattle.live.specs.Entries.{firstOf}
+use Rattle.live.specs.Stands.{Step, Kept, BitsAre}
 use Rattle.positions.specs.Position.{Chosen}
 use Rattle.rows.specs.DecodedRows.{prefixes}
-use Rattle.positions.specs.Running.{prefixAt, Running}
+use Rattle.positions.specs.Running.{prefixAt, Owns, Running}
 
 -- ---- the prefixes after i positions
 module _ (c : Code) (y : List ℤ) (l i : ℕ) where
@@ -41,9 +43,10 @@ kids c y l i = sortBy (cheaper (cost (c .m) y)) (families (children c i) (prefix
 
 -- as they are made by the flag that is read
 kids-read : (c : Code) (y : List ℤ) (l i : ℕ) → i < size c
-    → sortBy (cheaper (cost (c .m) y)) (families (continued (getD (unpacked (c .map)) i 0)) (prefixes c y l i)) ≡ kids c y l i
+    → sortBy (cheaper (cost (c .m) y)) (families (λ w. continued (getD (unpacked (c .map)) i 0) (frozenBit c i w) w) (prefixes c y l i)) ≡ kids c y l i
 unfolding children
-kids-read c y l i h = ap (λ (f : ℕ). sortBy (cheaper (cost (c .m) y)) (families (continued f) (prefixes c y l i))) (flag-is c i h)
+kids-read c y l i h =
+    ap (λ (f : ℕ). sortBy (cheaper (cost (c .m) y)) (families (λ w. continued f (frozenBit c i w) w) (prefixes c y l i))) (flag-is c i h)
 
 module _ (c : Code) (y : List ℤ) (deep l h i : ℕ) (s r : Live) (t b slots : List ℕ) (run : Running c y deep l h i s t b slots) (hi : i < 2 ^ suc (suc deep)) where
   size-is : size c ≡ 2 ^ suc (suc deep)
@@ -55,16 +58,22 @@ module _ (c : Code) (y : List ℤ) (deep l h i : ℕ) (s r : Live) (t b slots : 
       (λ r hr. prefix-bits c y l i r (omega (arith, run .counted))) (λ r hr. prefix-long c y l i r (omega (arith, run .counted))) hi x hx k hk
       ∙ ap (λ (m : ℕ). cost m y (prefixAt c y l i k ++ x ∷ [])) (sym (run .call .exponent))
 
-  module _ (ch : Chosen (getD (unpacked (c .map)) i 0) i l h t (take (3 * h) b) slots s r) where
+  module _ (own : List ℕ) (owns : Owns c y l i own) (ch : Chosen (getD (unpacked (c .map)) i 0) i l h t (take (3 * h) b) slots own s r) where
     inside : i < size c
     inside = omega (arith, size-is)
+
+    bits : BitsAre (getD (unpacked (c .map)) i 0) (frozenBit c i) (ch .bs) (prefixes c y l i)
+    bits k hk =
+        let w : List ℕ = prefixAt c y l i k in
+        ch .bits k (omega (arith, run .counted))
+        ∙ ap (firstOf (getD (unpacked (c .map)) i 0)) (ap (λ (x : ℕ). x % 2) (owns k hk) ∙ mod-eq-of-lt (frozen-lt c i (prefix-bits c y l i k hk)))
 
     chosen : Kept (cost (c .m) y) (i + 1) l (prefixes c y l i) (kids c y l i) s r
     chosen =
         subst (λ (ws : List (List ℕ)). Kept (cost (c .m) y) (i + 1) l (prefixes c y l i) ws s r) (kids-read c y l i inside)
-        (ch .position .keeps (cost (c .m) y) i (prefixes c y l i) (run .rep)
-        (λ k hk. ch .zeros k (omega (arith, run .counted)) ∙ read 0 (omega arith) k (omega (arith, run .counted)))
-        (λ e k hk. ch .ones e k (omega (arith, run .counted)) ∙ read 1 (omega arith) k (omega (arith, run .counted))))
+        (ch .position .keeps (cost (c .m) y) (frozenBit c i) i (prefixes c y l i) (run .rep) bits
+        (λ k hk. ch .firsts k (omega (arith, run .counted)) ∙ read (getD (ch .bs) k 0 % 2) (omega arith) k (omega (arith, run .counted)))
+        (λ e k hk. ch .seconds e k (omega (arith, run .counted)) ∙ read 1 (omega arith) k (omega (arith, run .counted))))
 
     -- the list that is chosen stands for the next prefixes
     pub chosen-step : Step (cost (c .m) y) (suc i) (prefixes c y l i) (prefixes c y l (suc i)) (entries r)

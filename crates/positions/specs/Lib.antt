@@ -1,3 +1,4 @@
 pub mod History
+pub mod Own
 pub mod Position
 pub mod Running

@@ -9,7 +9,7 @@ use Rattle.tables.specs.Walk.{fieldAt}
 use Rattle.tables.specs.Top.{FitTop, topCost}
 use Rattle.tables.specs.Cut.{CutSlots}
 use Rattle.live.specs.declared.Live.{Live}
-use Rattle.live.specs.Entries.{parentOf, bitOf}
+use Rattle.live.specs.Entries.{parentOf, bitOf, firstOf}
 use Rattle.live.specs.Stands.{Position}
 use Rattle.positions.specs.History.{noteOf}
 
@@ -18,13 +18,16 @@ pub record ChooseFits (i l h count : ℕ) (t b slots map : List ℕ) : Type 0 wh
   pub some : 1 ≤ l
   pub inside : i < 8 * length map
 
--- r is the list of the best children of s, whose costs are read at the top; f is the flag of the position
-pub record Chosen (f i l h : ℕ) (t b slots : List ℕ) (s r : Live) : Type 0 where
-  pub zs : List ℕ
-  pub os : List ℕ
-  pub zeros : (k : ℕ) → k < s .count → getD zs k 0 ≡ topCost i l h t b slots 0 k
-  pub ones : f ≡ 0 → (k : ℕ) → k < s .count → getD os k 0 ≡ topCost i l h t b slots 1 k
-  pub position : Position f l zs os s r
+-- r is the list of the best children of s, whose costs are read at the top; f is the flag of the position, and own has each path's bit
+-- where it is frozen
+pub record Chosen (f i l h : ℕ) (t b slots own : List ℕ) (s r : Live) : Type 0 where
+  pub bs : List ℕ
+  pub cs : List ℕ
+  pub ds : List ℕ
+  pub bits : (k : ℕ) → k < s .count → getD bs k 0 % 2 ≡ firstOf f (getD own k 0 % 2)
+  pub firsts : (k : ℕ) → k < s .count → getD cs k 0 ≡ topCost i l h t b slots (getD bs k 0 % 2) k
+  pub seconds : f ≡ 0 → (k : ℕ) → k < s .count → getD ds k 0 ≡ topCost i l h t b slots 1 k
+  pub position : Position f l bs cs ds s r
 
 -- the parents and last bits of the first count entries
 pub record Lineage (count : ℕ) (code parents bits : List ℕ) : Type 0 where

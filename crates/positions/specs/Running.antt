@@ -5,9 +5,11 @@ use mathlib.Core.List.{List, []}
 use Prim.Native.Nat.{ℕ, zero, suc, _+_, _*_, _<_, _≤_, _^_}
 use lib.ListN.{length, take, drop, getD, replicate}
 use lib.IntN.{ℤ}
-use Rattle.spec.specs.Code.{Code}
+use Rattle.spec.specs.Code.{Code, frozenBit}
 use Rattle.laws.specs.Cost.{cost, magnitude}
 use Rattle.laws.specs.CeilingCost.{lostCost}
+use Rattle.laws.specs.MapBits.{flagsOf}
+use Rattle.laws.specs.Accepted.{Ruled}
 use Rattle.tables.specs.Tab.{slotStart}
 use Rattle.tables.specs.Right.{AllRight}
 use Rattle.tables.specs.Start.{Started}
@@ -67,18 +69,31 @@ pub record PositionFits (deep l h n i at numbers bytes slots map : ℕ) : Type 0
   pub long : 800 ≤ slots
   pub flags : n ≤ 8 * map
 
--- for whatever code and soft values: from what holds after i positions to what holds after one more
-abbrev pub Moves : ℕ → ℕ → ℕ → ℕ → List ℕ → Live → List ℕ → List ℕ → List ℕ → Live → List ℕ → List ℕ → List ℕ → Type 0
-Moves deep l h i map s t b slots r t′ b′ slots′ =
-    (c : Code) (y : List ℤ) → c .map ≡ map → Running c y deep l h i s t b slots → Running c y deep l h (suc i) r t′ b′ slots′
+-- own has, by rank, the bit by which each prefix after i positions goes on where position i is frozen
+abbrev pub Owns : Code → List ℤ → ℕ → ℕ → List ℕ → Type 0
+Owns c y l i own = (k : ℕ) → k < length (prefixes c y l i) → getD own k 0 ≡ frozenBit c i (prefixAt c y l i k)
 
--- positions 0 to p - 1 of n
-pub record RunFits (deep l h n p numbers bytes map : ℕ) : Type 0 where
+-- from the place k on, but for the l places at `at`, b′ is b
+pub record Beside (k at l : ℕ) (b b′ : List ℕ) : Type 0 where
+  pub below : (j : ℕ) → k ≤ j → j < at → getD b′ j 0 ≡ getD b j 0
+  pub above : (j : ℕ) → at + l ≤ j → getD b′ j 0 ≡ getD b j 0
+
+-- for whatever code and soft values: from what holds after i positions to what holds after one more
+abbrev pub Moves : ℕ → ℕ → ℕ → ℕ → List ℕ → List ℕ → Live → List ℕ → List ℕ → List ℕ → Live → List ℕ → List ℕ → List ℕ → Type 0
+Moves deep l h i map own s t b slots r t′ b′ slots′ =
+    (c : Code) (y : List ℤ) → c .map ≡ map → Owns c y l i own → Running c y deep l h i s t b slots → Running c y deep l h (suc i) r t′ b′ slots′
+
+-- positions 0 to p - 1 of n; behind the history there is room for a row of n bytes for each path
+pub record RunFits (deep l h n p numbers bytes rows : ℕ) (map pairs : List ℕ) : Type 0 where
   pub sizes : BlockSizes deep l h n
+  pub short : n ≤ 1024
   pub stop : p ≤ n
   pub words : 16 * (h + 2 ^ deep) ≤ numbers
-  pub room : 3 * h + l * n ≤ bytes
-  pub flags : n ≤ 8 * map
+  pub there : 3 * h + l * n + 32 ≤ bytes
+  pub room : 3 * h + l * n + n * l ≤ bytes
+  pub wide : n * l ≤ rows
+  pub flags : n ≤ 8 * length map
+  pub ruled : Ruled (flagsOf n map) pairs
 
 -- a list of zeros
 abbrev pub Zeros : List ℕ → Type 0
@@ -95,6 +110,6 @@ pub record Ran (c : Code) (y : List ℤ) (deep l h p : ℕ) (r : Live) (t b : Li
   pub running : Running c y deep l h p r t b slots
 
 -- for whatever code and soft values: from the start to the stop position
-pub record Runs (deep l h p : ℕ) (map t b : List ℕ) (r : Live) (t′ b′ : List ℕ) : Type 0 where
+pub record Runs (deep l h p : ℕ) (map pairs t b : List ℕ) (r : Live) (t′ b′ : List ℕ) : Type 0 where
   pub few : r .count ≤ l
-  pub ran : (c : Code) (y : List ℤ) → c .map ≡ map → Call c y deep → Started deep l h y t → Zeros b → Ran c y deep l h p r t′ b′
+  pub ran : (c : Code) (y : List ℤ) → c .map ≡ map → c .pairs ≡ pairs → Call c y deep → Started deep l h y t → Zeros b → Ran c y deep l h p r t′ b′

@@ -1,12 +1,13 @@
 // One position: every live path goes on by a bit or splits in two, the best stay, and the tables follow.
 ghost use mathlib.Core.Path.{_≡_};
-ghost use Prim.Native.Nat.{_≤_};
+ghost use Prim.Native.Nat.{_*_, _≤_};
 ghost use lib.ListN.{length, getD};
 ghost use Rattle.spec.specs.Bits.{unpacked};
 ghost use Rattle.live.specs.Entries.{parentOf};
 ghost use Rattle.positions.specs.Position.{Chosen, ChooseFits, Lineage, Settled, SettleFits};
-ghost use Rattle.positions.specs.Running.{PositionFits, Standing, Moves};
+ghost use Rattle.positions.specs.Running.{PositionFits, Standing, Beside, Moves};
 use crate::history::note;
+use crate::own::own_costs;
 use code::flag;
 use live::Live;
 use live::entry_bit;
@@ -15,19 +16,20 @@ use tables::top::top_bits;
 use tables::top::top_costs;
 use tables::walk::advance;
 
-// The best children of the live paths at position i.
+// The best children of the live paths at position i. Where that is frozen, each goes on by its bit of `bits`.
 fn choose(
     t: &[u32],
     b: &[u8],
     slots: &[u8],
     map: &[u8],
+    bits: &[u8; 32],
     s: Live,
     i: usize,
     l: usize,
     h: usize,
 ) -> Live
     requires { ⌜ ChooseFits i l h (s .count) (now t) (now b) (now slots) (now map) ⌝ }
-    ensures { λ r. ⌜ Chosen (getD (unpacked (now (map .entry))) i 0) i l h (now (t .entry)) (now (b .entry)) (now (slots .entry)) s r ⌝ }
+    ensures { λ r. ⌜ Chosen (getD (unpacked (now (map .entry))) i 0) i l h (now (t .entry)) (now (b .entry)) (now (slots .entry)) (now (bits .entry)) s r ⌝ }
 {
     let count = s.count;
     let mut zeros = [0u32; 32];
@@ -36,7 +38,9 @@ fn choose(
     if flag(map, i) == 0 {
         return s.clear(&zeros, &ones, l);
     }
-    s.freeze(&zeros, l)
+    let mut costs = [0u32; 32];
+    own_costs(&mut costs, bits, &zeros, &ones, count);
+    s.freeze(bits, &costs, l)
 }
 
 fn parent_byte(code: u64) -> u8
@@ -89,6 +93,7 @@ pub(crate) fn position(
     b: &mut [u8],
     slots: &mut [u8],
     map: &[u8],
+    bits: &[u8; 32],
     s: Live,
     i: usize,
     at: usize,
@@ -98,10 +103,11 @@ pub(crate) fn position(
     n: usize,
 ) -> Live
     requires { ⌜ PositionFits deep l h n i at (length (now t)) (length (now b)) (length (now slots)) (length (now map)) × Standing deep l s (now slots) ⌝ }
-    ensures { λ r. ⌜ Standing deep l r (now (slots .exit)) × Moves deep l h i (now (map .entry)) s (now (t .entry)) (now (b .entry)) (now (slots .entry)) r (now (t .exit)) (now (b .exit)) (now (slots .exit)) ⌝ }
+    ensures { λ r. ⌜ Standing deep l r (now (slots .exit)) × Beside (3 * h) at l (now (b .entry)) (now (b .exit))
+        × Moves deep l h i (now (map .entry)) (now (bits .entry)) s (now (t .entry)) (now (b .entry)) (now (slots .entry)) r (now (t .exit)) (now (b .exit)) (now (slots .exit)) ⌝ }
 {
     let k = 3 * h;
-    let next = choose(t, &b[..k], slots, map, s, i, l, h);
+    let next = choose(t, &b[..k], slots, map, bits, s, i, l, h);
     settle(b, slots, next, i, at, deep, l, h);
     let count = next.count;
     advance(t, &mut b[..k], slots, i, deep, count, l, h, n);

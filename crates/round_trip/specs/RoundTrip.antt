@@ -8,13 +8,13 @@ use native.Mathlib.Omega.{arith}
 use lib.ListN.{length, take, replicate}
 use lib.Seq.{take-at}
 use Rattle.spec.specs.Bits.{Bits}
-use Rattle.spec.specs.Transform.{transform}
-use Rattle.spec.specs.Code.{Code, size, frozen, payloadSize, spread, gathered, broken, encoded, inputOf, extracted}
+use Rattle.spec.specs.Code.{Code, size, frozen, payloadSize, inputFor, gathered, broken, codeTransform, encoded, inputOf, extracted}
 use Rattle.spec.specs.Faults.{first, settled}
 use Rattle.spec.specs.Refusals.{extractFaults}
 use Rattle.spec.specs.Outcome.{padded, Written, written, encodeRefusal, encodeOutcome, extractRefusal, extractOutcome}
 use Rattle.laws.specs.FirstFault.{First, none, here, later, is-first, of-first, first-after}
-use Rattle.laws.specs.FrozenMap.{length-spread, length-gathered, gathered-spread, broken-spread, spread-gathered, bits-spread, bits-gathered}
+use Rattle.laws.specs.FrozenMap.{length-gathered, bits-gathered}
+use Rattle.laws.specs.Inputs.{intact-input, input-intact, length-input, bits-input, input-gives}
 use Rattle.laws.specs.Accepted.{Accepted, accepted-of, flag-count}
 use Rattle.laws.specs.Layer.{length-transform}
 use Rattle.laws.specs.Inverse.{inverse-transform, transform-inverse, bits-transform, bits-inverse, length-inverse}
@@ -24,23 +24,23 @@ use Rattle.extractor.specs.ExtractCall.{inputFaults, extracts, extract-accepted
 
 -- ---- a payload of bits and its word
 module _ {c : Code} (a : Accepted c) {p : List ℕ} (t : Bits p) where
-  long-input : length (spread (frozen c) p) ≡ size c
-  long-input = length-spread (frozen c) p ∙ flag-count a
+  long-input : length (inputFor c p) ≡ size c
+  long-input = length-input c t ∙ flag-count a
 
-  input-of-encoded : inputOf c (encoded c p) ≡ spread (frozen c) p
+  input-of-encoded : inputOf c (encoded c p) ≡ inputFor c p
   unfolding encoded inputOf
-  input-of-encoded = inverse-transform (c .m) (spread (frozen c) p) (bits-spread (frozen c) t) long-input
+  input-of-encoded = inverse-transform (c .m) (inputFor c p) (bits-input c t) long-input
 
-  pub encoded-intact : broken (frozen c) (inputOf c (encoded c p)) ≡ false
-  encoded-intact = ap (broken (frozen c)) input-of-encoded ∙ broken-spread (frozen c) p
+  pub encoded-intact : broken c (inputOf c (encoded c p)) ≡ false
+  encoded-intact = ap (broken c) input-of-encoded ∙ input-intact c (a .ruled .right) t
 
   pub encoded-given : Given c (size c) (encoded c p)
   unfolding encoded
-  encoded-given = record { accepts = a; long = length-transform (c .m) (spread (frozen c) p) long-input; bits = bits-transform (c .m) (bits-spread (frozen c) t) }
+  encoded-given = record { accepts = a; long = length-transform (c .m) (inputFor c p) long-input; bits = bits-transform (c .m) (bits-input c t) }
 
   pub extracted-encoded : length p ≡ payloadSize c → extracted c (encoded c p) ≡ p
   unfolding extracted
-  extracted-encoded e = ap (gathered (frozen c)) input-of-encoded ∙ gathered-spread (frozen c) p e
+  extracted-encoded e = ap (gathered (frozen c)) input-of-encoded ∙ input-gives c t e
 
 -- ---- a word of n bits and its payload
 module _ {c : Code} {w : List ℕ} (g : Given c (size c) w) where
@@ -56,10 +56,11 @@ module _ {c : Code} {w : List ℕ} (g : Given c (size c) w) where
     bits = bits-gathered (frozen c) (bits-inverse (c .m) (g .bits));
   }
 
-  pub encoded-extracted : broken (frozen c) (inputOf c w) ≡ false → encoded c (extracted c w) ≡ w
+  pub encoded-extracted : broken c (inputOf c w) ≡ false → encoded c (extracted c w) ≡ w
   unfolding encoded extracted inputOf
   encoded-extracted b =
-      ap (transform (c .m)) (spread-gathered (frozen c) (inputOf c w) flags-of-input b) ∙ transform-inverse (c .m) w (g .bits) (g .long)
+      ap (codeTransform c) (intact-input c (g .accepts .ruled .right) (bits-inverse (c .m) (g .bits)) flags-of-input b)
+      ∙ transform-inverse (c .m) w (g .bits) (g .long)
 
 -- ---- the calls, one after the other
 -- the front of what a call wrote
@@ -98,12 +99,12 @@ pub record CodeWord (c : Code) (word : List ℕ) : Type 0 where
   pub bits : Bits payload
   pub gives : encoded c payload ≡ word
 
--- where 1, 2, 3, 6 and 11 do not apply, a word that is no code word is refused with 12
+-- where 1, 2, 3, 15, 6 and 11 do not apply, a word that is no code word is refused with 12
 pub outside-refused : (c : Code) (word : List ℕ) (room : ℕ) → first (givenFaults c (size c) word) ≡ 0 → (CodeWord c word → ⊥) → extractRefusal c word room ≡ 12
 unfolding extractRefusal
-outside-refused c word room e n = by-test (broken (frozen c) (inputOf c word)) refl
+outside-refused c word room e n = by-test (broken c (inputOf c word)) refl
   where
-    by-test : (b : Bool) → broken (frozen c) (inputOf c word) ≡ b → first (extractFaults c word room) ≡ 12
+    by-test : (b : Bool) → broken c (inputOf c word) ≡ b → first (extractFaults c word room) ≡ 12
     by-test true i =
         sym (first-after (givenFaults c (size c) word) (inputFaults c (inputOf c word) room) 0 (sym e) (given-numbers c (size c) word) refl 12
         (is-first (inputFaults c (inputOf c word) room) 12 (here i)))
@@ -113,16 +114,18 @@ outside-refused c word room e n = by-test (broken (frozen c) (inputOf c word)) r
         absurd (n (record { payload = extracted c word; long = q .long; bits = q .bits; gives = encoded-extracted g i }))
 
 -- and what is refused with 12 is no code word
-not-intact : (c : Code) (word : List ℕ) (room : ℕ) → First (extractFaults c word room) 12 → Accepted c × (broken (frozen c) (inputOf c word) ≡ true)
+not-intact : (c : Code) (word : List ℕ) (room : ℕ) → First (extractFaults c word room) 12 → Accepted c × (broken c (inputOf c word) ≡ true)
 unfolding first
-not-intact c word room (later a (later b (later d (later l (later t (here e)))))) = (accepted-of (later a (later b (later d none))), e)
-not-intact c word room (later a (later b (later d (later l (later t (later i (later r f))))))) = absurd (omega (arith, is-first [] 12 f))
+not-intact c word room (later a (later b (later d (later w (later f (later r (later l (later t (here e))))))))) =
+    (accepted-of (later a (later b (later d (later w (later f (later r none)))))), e)
+not-intact c word room (later a (later b (later d (later w (later f (later r (later l (later t (later i (later o z)))))))))) =
+    absurd (omega (arith, is-first [] 12 z))
 
 pub refused-outside : (c : Code) (word : List ℕ) (room : ℕ) → extractRefusal c word room ≡ 12 → CodeWord c word → ⊥
 unfolding extractRefusal
 refused-outside c word room e w =
     let b = not-intact c word room (of-first (extractFaults c word room) 12 (sym e)) in
-    true≢false (sym (b .1) ∙ ap (λ (l : List ℕ). broken (frozen c) (inputOf c l)) (sym (w .gives)) ∙ encoded-intact (b .0) (w .bits))
+    true≢false (sym (b .1) ∙ ap (λ (l : List ℕ). broken c (inputOf c l)) (sym (w .gives)) ∙ encoded-intact (b .0) (w .bits))
 
 -- ---- a call that is refused leaves its output as it was lent
 settled-leaves : (r : ℕ) (out : List ℕ) (s : Written) → s .number ≡ 0 → (settled r (λ k. written k out) s .number ≡ 0 → ⊥) → settled r (λ k. written k out) s .output ≡ out

@@ -4,7 +4,7 @@ use mathlib.Core.List.{[], _∷_}
 use lib.IntN.{negsuc}
 use Rattle.spec.specs.Bits.{bitsOf, unpacked}
 use Rattle.spec.specs.Transform.{transform}
-use Rattle.spec.specs.Code.{frozen}
+use Rattle.spec.specs.Code.{frozen, frozenBit}
 use Rattle.spec.specs.Score.{largest, score}
 use Rattle.spec.specs.Decoder.{children, liveBy, droppedBy, rows, ceilingBy}
 use Rattle.spec.specs.Examples.{y₁, frozen01, decode, ceilingAt}
@@ -20,7 +20,7 @@ pub sample-text : textOf 0 (decode frozen01 y₁ 2 4) (ceilingAt frozen01 y₁ 2
     ∷ 48 ∷ 32 ∷ 49 ∷ 51 ∷ 32 ∷ 48 ∷ 48 ∷ 49 ∷ 48 ∷ 32 ∷ 48 ∷ 49 ∷ 49 ∷ 48 ∷ 10
     ∷ 49 ∷ 32 ∷ 49 ∷ 49 ∷ 32 ∷ 48 ∷ 48 ∷ 48 ∷ 48 ∷ 32 ∷ 48 ∷ 48 ∷ 48 ∷ 48 ∷ 10
     ∷ []
-unfolding frozen01 y₁ textOf linesOf frameLine rowLine bitText decimal digits rows liveBy droppedBy ceilingBy children score largest transform frozen unpacked bitsOf
+unfolding frozen01 y₁ textOf linesOf frameLine rowLine bitText decimal digits rows liveBy droppedBy ceilingBy children score largest transform frozen frozenBit unpacked bitsOf
 sample-text = refl
 
 -- `refused 13`

@@ -3,3 +3,4 @@ mod Filling
 mod InputRows
 mod WordRows
 mod ScoreRows
+mod Renewing

@@ -4,7 +4,7 @@ use mathlib.Core.List.{List, [], _∷_, _++_, map}
 use Prim.Native.Nat.{ℕ, zero, suc, _+_, _-_, _*_, _/_, _%_, _<_, _≤_}
 use native.Mathlib.Omega.{arith}
 use native.Mathlib.Nat.{mod-eq-of-lt}
-use lib.ListN.{length, take, getD, replicate, length-append}
+use lib.ListN.{length, take, drop, getD, replicate, length-append}
 use lib.Seq.{take-length, take-suc}
 use Rattle.spec.specs.Bits.{Bits, nil, cons}
 use Rattle.spec.specs.Outcome.{padded, concat}
@@ -31,6 +31,12 @@ tracedBack l g (suc i) r = tracedBack l g i (getD g (l * i + r) 0 / 2 % 32) ++ (
 abbrev pub prefixesBack : (l : ℕ) (g : List ℕ) (p count : ℕ) → List (List ℕ)
 prefixesBack l g p zero = []
 prefixesBack l g p (suc r) = prefixesBack l g p r ++ (tracedBack l g p r ∷ [])
+
+-- Reading back from rank r after p positions as far as position `from` leads to rank q, and puts the bits from there on into their places
+-- of a row. Where the history leads back to a prefix, it leads back from q to the front of it.
+pub record LedBack (l from p r : ℕ) (g row₀ : List ℕ) (q : ℕ) (row : List ℕ) : Type 0 where
+  pub rest : tracedBack l g from q ++ drop from row ≡ tracedBack l g p r ++ drop p row₀
+  pub leads : l ≤ 32 → (w : List ℕ) → Trace l g p r w → Trace l g from q (take from w)
 
 -- rows of n bytes for count paths of a list of l, after p positions; past is l * p
 pub record Fits (l p past n count inputs history : ℕ) : Type 0 where
@@ -75,7 +81,7 @@ inputs-bits l p n count N g inputs e =
     let rows : List ℕ = concat (map (filledRow n) (prefixesBack l g p count)) in
     rw e (bits-append (bits-rows l g p n count) (bits-zeros (N - length rows)))
 
-trace-rank : {l i r : ℕ} {g w : List ℕ} → Trace l g i r w → r < l
+pub trace-rank : {l i r : ℕ} {g w : List ℕ} → Trace l g i r w → r < l
 trace-rank (begun p) = p
 trace-rank (back p b e t) = p
 
@@ -89,7 +95,7 @@ trace-kept {l} g′ h (back {i} {r} p b e t) =
     step l i = omega arith
 
 -- where the history leads back to a prefix, this is read back: ranks of a list have five bits
-trace-back : {l i r : ℕ} {g w : List ℕ} → l ≤ 32 → Trace l g i r w → tracedBack l g i r ≡ w
+pub trace-back : {l i r : ℕ} {g w : List ℕ} → l ≤ 32 → Trace l g i r w → tracedBack l g i r ≡ w
 trace-back hl (begun p) = refl
 trace-back {l} {g = g} hl (back {i} {r} {q} {b} {w} p hb e t) =
     let x : ℕ = getD g (l * i + r) 0 in
@@ -97,6 +103,10 @@ trace-back {l} {g = g} hl (back {i} {r} {q} {b} {w} p hb e t) =
     let half : x / 2 ≡ q = omega arith in
     let high : x / 2 % 32 ≡ q = rw half (mod-eq-of-lt (omega (arith, trace-rank t, hl))) in
     ap₂ (λ (j c : ℕ). tracedBack l g i j ++ c ∷ []) high low ∙ ap (λ (v : List ℕ). v ++ b ∷ []) (trace-back hl t)
+
+-- it has a bit for each position
+pub trace-long : {l i r : ℕ} {g w : List ℕ} → l ≤ 32 → Trace l g i r w → length w ≡ i
+trace-long {l} {i} {r} {g} hl t = ap length (sym (trace-back hl t)) ∙ length-back l g i r
 
 -- and so are all prefixes of a list
 pub prefixes-back : (l p : ℕ) (g : List ℕ) (ps : List (List ℕ)) → l ≤ 32 → Traced l p g ps → prefixesBack l g p (length ps) ≡ ps

@@ -1,9 +1,8 @@
 // The input rows: each path's prefix, read back from the history, and 0 behind it.
 ghost use mathlib.Core.Path.{_≡_};
-ghost use mathlib.Core.List.{_++_};
 ghost use Prim.Native.Nat.{_+_, _*_, _≤_, _<_};
-ghost use lib.ListN.{length, drop};
-ghost use Rattle.rows.specs.Trace.{Fits, tracedBack, InputsWritten};
+ghost use lib.ListN.{length};
+ghost use Rattle.rows.specs.Trace.{Fits, LedBack, InputsWritten};
 use slices::fill_bytes;
 
 fn wide(x: u8) -> usize
@@ -12,21 +11,31 @@ fn wide(x: u8) -> usize
     x as usize
 }
 
-// The prefix of the path at rank r after p positions, at the front of a row. past is l * p.
-fn trace_row(row: &mut [u8], history: &[u8], l: usize, p: usize, past: usize, r: usize)
-    requires { ⌜ (p ≤ length (now row)) × (past ≡ l * p) × (past + 32 ≤ length (now history)) × (r < 32) ⌝ }
-    ensures { λ _. ⌜ now (row .exit) ≡ tracedBack l (now (history .entry)) p r ++ drop p (now (row .entry)) ⌝ }
+// Reads the path at rank r after p positions back to position `from`: its bits from there on go to their places of a row, and the rank
+// that it had then is returned. past is l * p.
+pub(crate) fn trace_back(
+    row: &mut [u8],
+    history: &[u8],
+    l: usize,
+    from: usize,
+    p: usize,
+    past: usize,
+    r: usize,
+) -> usize
+    requires { ⌜ (from ≤ p) × (p ≤ length (now row)) × (past ≡ l * p) × (past + 32 ≤ length (now history)) × (r < 32) ⌝ }
+    ensures { λ q. ⌜ LedBack l from p r (now (history .entry)) (now (row .entry)) q (now (row .exit)) ⌝ }
 {
     let mut at = p;
     let mut base = past;
     let mut rank = r;
-    while 0 < at {
+    while from < at {
         at -= 1;
         base -= l;
         let x = history[base + rank];
         row[at] = x % 2;
         rank = wide(x / 2 % 32);
     }
+    rank
 }
 
 // The input rows of count paths after p positions, by rank, and 0 behind them.
@@ -46,7 +55,7 @@ pub fn write_inputs(
     let mut r = 0;
     let mut at = 0;
     while r < count {
-        trace_row(&mut inputs[at..at + n], history, l, p, past, r);
+        trace_back(&mut inputs[at..at + n], history, l, 0, p, past, r);
         r += 1;
         at += n;
     }

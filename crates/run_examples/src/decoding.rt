@@ -71,7 +71,7 @@ fn read_asked(fields: &[u32]) -> Asked
     }
 }
 
-fn decode_asked(map: &[u8], soft: &[i16], x: Asked)
+fn decode_asked(map: &[u8], pairs: &[u8], soft: &[i16], x: Asked)
     requires { ⌜ (x .numbers ≤ 512) × (x .bytes ≤ 320) × (x .inputs ≤ 16) × (x .words ≤ 16) × (x .scores ≤ 1) ⌝ }
 {
     let a = x.numbers;
@@ -92,6 +92,7 @@ fn decode_asked(map: &[u8], soft: &[i16], x: Asked)
     let answer = decode(
         x.m,
         map,
+        pairs,
         x.l,
         x.p,
         soft,
@@ -104,13 +105,20 @@ fn decode_asked(map: &[u8], soft: &[i16], x: Asked)
     say_decoded(answer, inputs, words, scores);
 }
 
-// The numbers, at most 2 bytes of map and at most 16 soft values.
+// The numbers, at most 2 bytes of map, 16 of pairs and 16 soft values.
 pub(crate) fn decode_line(line: &[u8], at: usize) {
     let mut fields = [0u32; 8];
     let mut map = [0u8; 2];
+    let mut pairs = [0u8; 16];
     let mut soft = [0i16; 16];
     let from = read_fields(line, at, &mut fields);
     let a = read_bytes(line, from, &mut map);
-    let b = read_soft(line, a.at, &mut soft);
-    decode_asked(&map[..a.len], &soft[..b], read_asked(&fields));
+    let q = read_bytes(line, a.at, &mut pairs);
+    let b = read_soft(line, q.at, &mut soft);
+    decode_asked(
+        &map[..a.len],
+        &pairs[..q.len],
+        &soft[..b],
+        read_asked(&fields),
+    );
 }

@@ -42,7 +42,7 @@ fn run(text: &[u8]) {
 }
 
 fn main() {
-    let mut text = [0u8; 8192];
+    let mut text = [0u8; 16384];
     let len = io::read_full(0, &mut text);
     run(&text[..len]);
 }

@@ -9,14 +9,14 @@ use lib.Dec.{T}
 use lib.IntN.{ℤ, pos, +ℤ-idr}
 use lib.Signed.{leZ}
 use Rattle.spec.specs.Bits.{Bits}
-use Rattle.spec.specs.Code.{Code, size, frozen, payloadSize, spread, codeTransform, encoded}
+use Rattle.spec.specs.Code.{Code, size, frozen, payloadSize, inputFor, codeTransform, encoded}
 use Rattle.spec.specs.Score.{correlation, largest, score, taken}
 use Rattle.spec.specs.Decoder.{Row, children, scoreOf, live, rowOf, liveBy, droppedBy, ceilingBy, ceiling}
 use Rattle.spec.specs.ScoreIsLargest.{no-completion-above}
 use Rattle.spec.specs.RowCount.{length-frozen}
 use Rattle.spec.specs.Outcome.{Answer, decoded, refusedBy, Lent, roomOf, Decoding, decodeServed, decodeOutcome}
 use Rattle.laws.specs.BitLaws.{bits-drop}
-use Rattle.laws.specs.FrozenMap.{length-spread, bits-spread}
+use Rattle.laws.specs.Inputs.{length-input, bits-input}
 use Rattle.laws.specs.Cost.{magnitude}
 use Rattle.laws.specs.Layer.{cost-empty}
 use Rattle.laws.specs.ScoreCost.{scoreFrom, score-is}
@@ -36,7 +36,7 @@ ceilingOf (refusedBy k) = pos 0
 
 -- the row of a payload: its input, its word, and the word's correlation
 abbrev pub rowOfPayload : Code → List ℤ → List ℕ → Row
-rowOfPayload c soft p = record { input = spread (frozen c) p; word = encoded c p; score = correlation (taken soft) (encoded c p) }
+rowOfPayload c soft p = record { input = inputFor c p; word = encoded c p; score = correlation (taken soft) (encoded c p) }
 
 -- a row is that of a payload of k bits
 abbrev pub CodeRow : Code → List ℤ → Row → Type 0
@@ -61,12 +61,12 @@ module _ (T′ : List ℕ → List ℕ) (c : Code) (y : List ℤ) (l : ℕ) wher
 
   -- so the input of a payload correlates no higher than the ceiling
   none-above-paper : 1 ≤ l → length (frozen c) ≡ size c → (p : ℕ) → p ≤ size c → {payload : List ℕ} → Bits payload
-      → T (leZ (correlation y (T′ (spread (frozen c) payload))) (ceiling T′ c y l p))
+      → T (leZ (correlation y (T′ (inputFor c payload))) (ceiling T′ c y l p))
   none-above-paper some flags p h {payload} t =
-      let u : List ℕ = spread (frozen c) payload in
+      let u : List ℕ = inputFor c payload in
       none-above-ceiling (scoreOf T′ c y l) (children c) l some (goes c) u (correlation y (T′ u)) p
       (λ i k. input-follows c t i (omega (arith, flags)))
-      (λ i k. prefixes-reach u (length-spread (frozen c) payload ∙ flags) (bits-spread (frozen c) t) i (omega arith))
+      (λ i k. prefixes-reach u (length-input c t ∙ flags) (bits-input c t) i (omega arith))
 
   -- the row of a path of n bits: nothing is filled up, and nothing is left free in the score
   abbrev wholeRow : List ℕ → Row
@@ -91,7 +91,7 @@ module _ (c : Code) (l p : ℕ) (soft : List ℤ) (x : Lent) (a : AcceptedCall c
   pub no-code-word-above : NoneAbove c soft (ceilingOf (decodeOutcome c l p soft x .answer))
   unfolding encoded
   no-code-word-above payload e t =
-      subst (λ (z : ℤ). T (leZ (correlation (taken soft) (codeTransform c (spread (frozen c) payload))) z)) (sym ceiling-is)
+      subst (λ (z : ℤ). T (leZ (correlation (taken soft) (codeTransform c (inputFor c payload))) z)) (sym ceiling-is)
       (none-above-paper (codeTransform c) c (taken soft) l (some-list c l p soft x a) flags p (stop-inside c l p soft x a) t)
 
 -- At stop 0, where nothing is decided yet, the ceiling is the sum of the magnitudes.

@@ -1,5 +1,5 @@
--- The ceiling by 01's sixth example and by one more code with the same soft values: the first score alone is no bound on the words of a
--- code, and a ceiling above the first score does not say that a longer list would gain.
+-- The ceiling by 01's sixth example and by two more codes with the same soft values, one of them with a pair: the first score alone is
+-- no bound on the words of a code, and a ceiling above the first score does not say that a longer list would gain.
 use mathlib.Core.Path.{_≡_, refl, ap}
 use mathlib.Core.List.{List, [], _∷_}
 use Prim.Native.Nat.{ℕ}
@@ -10,7 +10,7 @@ use lib.IntN.{ℤ, pos, negsuc, natAbs}
 use lib.Signed.{leZ}
 use Rattle.spec.specs.Bits.{nil, cons, bitsOf, unpacked}
 use Rattle.spec.specs.Transform.{transform}
-use Rattle.spec.specs.Code.{Code, code, size, frozen, encoded}
+use Rattle.spec.specs.Code.{Code, code, size, frozen, frozenBit, inputFor, encoded}
 use Rattle.spec.specs.Score.{largest, score}
 use Rattle.spec.specs.Decoder.{Row, children, liveBy, droppedBy, ceilingBy, rows}
 use Rattle.spec.specs.Faults.{first, some}
@@ -19,12 +19,12 @@ use Rattle.spec.specs.Outcome.{Lent, lent, decodeRefusal, decodeServed, decodeO
 use Rattle.spec.specs.Examples.{word4, y₂, frozen123}
 use Rattle.laws.specs.DecodeCall.{AcceptedCall}
 use Rattle.search.specs.FirstRow.{firstRow}
-use Rattle.search.specs.FirstRowExamples.{row}
+use Rattle.search.specs.FirstRowExamples.{row, followed}
 use Rattle.search.specs.Ceiling.{ceilingOf, NoneAbove, BestRow, first-row-is-best, no-list-size-gains}
 
 -- a code of four positions with 1 and 2 frozen
 unfoldable pub frozen12 : Code
-frozen12 = code 2 (6 ∷ [])
+frozen12 = code 2 (6 ∷ []) []
 
 -- what is lent for n = 4 and l = 4
 unfoldable pub lent4 : Lent
@@ -43,13 +43,13 @@ pub first-rows-and-ceilings : found frozen123 1 ∷ found frozen123 2 ∷ found 
     ∷ (row (word4 1 0 0 1) (word4 0 1 1 1) (pos 2), pos 2)
     ∷ (row (word4 1 0 0 1) (word4 0 1 1 1) (pos 2), pos 2)
     ∷ []
-unfolding frozen12 lent4 y₂ frozen123 bitsOf unpacked transform frozen largest score children liveBy droppedBy ceilingBy rows first some pastEnd decodeRefusal decodeServed decodeOutcome
+unfolding frozen12 lent4 y₂ frozen123 bitsOf unpacked transform frozen frozenBit largest score children liveBy droppedBy ceilingBy rows first some pastEnd decodeRefusal decodeServed decodeOutcome
 first-rows-and-ceilings = refl
 
 -- no list size gains over list size 1 there
 pub none-gains : (l : ℕ) (x : Lent) → AcceptedCall frozen12 l (size frozen12) y₂ x
     → T (leZ (firstRow (size frozen12) (decodeOutcome frozen12 l (size frozen12) y₂ x) .score) (found frozen12 1 .0 .score))
-unfolding frozen12 lent4 y₂ bitsOf unpacked transform frozen largest score children liveBy droppedBy ceilingBy rows first some pastEnd decodeRefusal decodeServed decodeOutcome
+unfolding frozen12 lent4 y₂ bitsOf unpacked transform frozen frozenBit largest score children liveBy droppedBy ceilingBy rows first some pastEnd decodeRefusal decodeServed decodeOutcome
 none-gains l x a = no-list-size-gains frozen12 2 l y₂ lent4 x refl a refl
 
 -- the statement of `first-row-is-best` the other way round: where the first row is a best word, the ceiling is its score
@@ -59,7 +59,7 @@ Converse = (c : Code) (l : ℕ) (soft : List ℤ) (x : Lent) → AcceptedCall c 
 
 -- is false
 pub no-converse : Converse → ⊥
-unfolding frozen12 lent4 y₂ bitsOf unpacked transform frozen largest score children liveBy droppedBy ceilingBy rows first some pastEnd decodeRefusal decodeServed decodeOutcome
+unfolding frozen12 lent4 y₂ bitsOf unpacked transform frozen frozenBit largest score children liveBy droppedBy ceilingBy rows first some pastEnd decodeRefusal decodeServed decodeOutcome
 no-converse claim =
     let same : pos 8 ≡ pos 2 = claim frozen12 1 y₂ lent4 refl (first-row-is-best frozen12 2 y₂ lent4 refl refl) in
     absurd (omega (arith, ap natAbs same))
@@ -70,5 +70,13 @@ FirstScoreAlone = (c : Code) (l p : ℕ) (soft : List ℤ) (x : Lent) → Accept
 
 -- is false: with frozen 1, 2 and 3 the word of payload 0 correlates at 0, above −2
 pub not-the-first-score-alone : FirstScoreAlone → ⊥
-unfolding lent4 y₂ frozen123 bitsOf unpacked transform frozen encoded largest score children liveBy rows first some pastEnd decodeRefusal decodeServed decodeOutcome
+unfolding lent4 y₂ frozen123 bitsOf unpacked transform frozen frozenBit inputFor encoded largest score children liveBy rows first some pastEnd decodeRefusal decodeServed decodeOutcome
 not-the-first-score-alone claim = claim frozen123 1 4 y₂ lent4 refl (0 ∷ []) refl (cons (omega arith) nil)
+
+-- Frozen 2, which follows 1: list size 2 gains, and by its ceiling none gains more.
+pub with-pair : found followed 1 ∷ found followed 2 ∷ [] ≡
+    (row (word4 1 1 1 1) (word4 1 1 0 1) (pos 4), pos 8)
+    ∷ (row (word4 0 1 1 1) (word4 0 1 0 1) (pos 6), pos 6)
+    ∷ []
+unfolding followed lent4 y₂ bitsOf unpacked transform frozen frozenBit largest score children liveBy droppedBy ceilingBy rows first some pastEnd decodeRefusal decodeServed decodeOutcome
+with-pair = refl

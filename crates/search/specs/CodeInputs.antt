@@ -1,19 +1,17 @@
 -- Which inputs a search by the children of a code can reach: those of payloads, and no others. A path of n positions that the
--- children allow has its payload at the clear positions and what the code asks at the frozen ones.
-use mathlib.Core.Path.{_≡_, refl, sym, subst}
-use mathlib.Core.Bool.{false, true≢false}
-use mathlib.Core.List.{List, [], _∷_, _++_}
-use mathlib.Core.Logic.{_⊎_, inl, inr}
-use Prim.Native.Nat.{ℕ, zero, suc, _<_}
+-- children allow has its payload at the clear positions and its own sum at each frozen one.
+use mathlib.Core.Path.{_≡_, refl, sym, subst, _∙_}
+use mathlib.Core.List.{List, [], _∷_, _++_, append-nil}
+use Prim.Native.Nat.{ℕ, zero, suc, _<_, _≤_}
 use native.Mathlib.Omega.{arith}
-use lib.ListN.{length, take, getD, length-append}
-use lib.Seq.{take-suc}
+use lib.ListN.{length, take, getD}
+use lib.Seq.{take-length, take-suc, length-take-le}
 use lib.IntN.{ℤ}
-use Rattle.spec.specs.Bits.{Bits, nil, cons}
-use Rattle.spec.specs.Code.{Code, frozen, payloadSize, spread, gathered, broken}
+use Rattle.spec.specs.Bits.{Bits, nil}
+use Rattle.spec.specs.Code.{Code, frozen, payloadSize, frozenBit, inputFor, gathered}
 use Rattle.spec.specs.Decoder.{continued, children, liveBy}
-use Rattle.laws.specs.BitLaws.{bits-snoc}
-use Rattle.laws.specs.FrozenMap.{length-spread, length-gathered, spread-gathered, bits-gathered}
+use Rattle.laws.specs.FrozenMap.{length-gathered, bits-gathered}
+use Rattle.laws.specs.Inputs.{Obeys, done, free, bound, snoc-cons, obeys-long, obeys-bits, obeys-filled, input-obeys, length-input}
 use Rattle.laws.specs.ListCost.{All, none, more, live-all}
 use Rattle.search.specs.ListSearch.{In, here, there, all-in, Follows}
 
@@ -24,80 +22,70 @@ pub record OfPayload {A : Type 0} (c : Code) (f : List ℕ → A) (a : A) : Type
   pub bits : Bits payload
   pub is : a ≡ f payload
 
--- ---- a payload's input is allowed
--- at each position the bit of a payload's input is one by which a prefix goes on
-spread-goes : (fs : List ℕ) {p : List ℕ} → Bits p → (i : ℕ) (w : List ℕ) → In (w ++ getD (spread fs p) i 0 ∷ []) (continued (getD fs i 0) w)
-spread-goes [] t i w = here
-spread-goes (zero ∷ fs) nil zero w = here
-spread-goes (zero ∷ fs) nil (suc i) w = spread-goes fs nil i w
-spread-goes (zero ∷ fs) (cons {x = b} h t) zero w = either b h
-  where
-    either : (b : ℕ) → b < 2 → In (w ++ b ∷ []) ((w ++ 0 ∷ []) ∷ (w ++ 1 ∷ []) ∷ [])
-    either zero h = here
-    either (suc zero) h = there here
-    either (suc (suc b)) h = absurd (omega arith)
-spread-goes (zero ∷ fs) (cons h t) (suc i) w = spread-goes fs t i w
-spread-goes (suc f ∷ fs) t zero w = here
-spread-goes (suc f ∷ fs) t (suc i) w = spread-goes fs t i w
-
-pub input-follows : (c : Code) {p : List ℕ} → Bits p → Follows (children c) (length (frozen c)) (spread (frozen c) p)
-unfolding children
-input-follows c {p} t i h =
-    let u : List ℕ = spread (frozen c) p in
-    rw (take-suc u i 0 (omega (arith, length-spread (frozen c) p))) (spread-goes (frozen c) t i (take i u))
-
--- ---- what is allowed is a payload's input
--- a prefix of i bits that has what the code asks at each frozen position
-record Allowed (c : Code) (i : ℕ) (w : List ℕ) : Type 0 where
-  long : length w ≡ i
-  bits : Bits w
-  keeps : broken (frozen c) w ≡ false
-
-broken-none : (fs : List ℕ) → broken fs [] ≡ false
-broken-none [] = refl
-broken-none (f ∷ fs) = refl
-
--- one bit more, which is 0 or at a clear position
-broken-more : (fs w : List ℕ) (b : ℕ) → (getD fs (length w) 0 ≡ 0) ⊎ (b ≡ 0) → broken fs w ≡ false → broken fs (w ++ b ∷ []) ≡ false
-broken-more [] w b a e = refl
-broken-more (zero ∷ fs) [] b a e = broken-none fs
-broken-more (suc f ∷ fs) [] zero a e = broken-none fs
-broken-more (suc f ∷ fs) [] (suc b) (inl a) e = absurd (omega (arith, a))
-broken-more (suc f ∷ fs) [] (suc b) (inr a) e = absurd (omega (arith, a))
-broken-more (zero ∷ fs) (x ∷ w) b a e = broken-more fs w b a e
-broken-more (suc f ∷ fs) (zero ∷ w) b a e = broken-more fs w b a e
-broken-more (suc f ∷ fs) (suc x ∷ w) b a e = absurd (true≢false e)
-
 module _ (c : Code) where
-  none-allowed : Allowed c 0 []
-  none-allowed = record { long = refl; bits = nil; keeps = broken-none (frozen c) }
+  -- ---- a payload's input is allowed
+  -- how a prefix goes on where the next position has flag f
+  abbrev Next : ℕ → List ℕ → List (List ℕ)
+  Next f w = continued f (frozenBit c (length w) w) w
 
-  children-allowed : (i : ℕ) (w : List ℕ) → Allowed c i w → All (Allowed c (suc i)) (children c i w)
+  clear-goes : (w : List ℕ) (b : ℕ) → b < 2 → In (w ++ b ∷ []) (Next 0 w)
+  clear-goes w zero h = here
+  clear-goes w (suc zero) h = there here
+  clear-goes w (suc (suc b)) h = absurd (omega arith)
+
+  -- what obeys goes on so at each of its positions
+  obeys-goes : {fs w r : List ℕ} → Obeys c fs w r → (j : ℕ) → j < length fs → In (w ++ take (suc j) r) (Next (getD fs j 0) (w ++ take j r))
+  obeys-goes done j h = absurd (omega arith)
+  obeys-goes (free {w = w} {b = b} k o) zero h = rw (append-nil w) (clear-goes w b k)
+  obeys-goes (bound {w = w} o) zero h = rw (append-nil w) here
+  obeys-goes (free {w = w} {r = r} k o) (suc j) h = rw (snoc-cons w (take (suc j) r), snoc-cons w (take j r)) at (obeys-goes o j (omega arith))
+  obeys-goes (bound {w = w} {r = r} o) (suc j) h = rw (snoc-cons w (take (suc j) r), snoc-cons w (take j r)) at (obeys-goes o j (omega arith))
+
+  pub input-follows : {p : List ℕ} → Bits p → Follows (children c) (length (frozen c)) (inputFor c p)
+  unfolding children
+  input-follows {p} t i h =
+      let u : List ℕ = inputFor c p in
+      let long : length (take i u) ≡ i = length-take-le i u (omega (arith, length-input c t)) in
+      subst (λ (k : ℕ). In (take (suc i) u) (continued (getD (frozen c) i 0) (frozenBit c k (take i u)) (take i u))) long (obeys-goes (input-obeys c t) i h)
+
+  -- ---- what is allowed is a payload's input
+  obeys-append : {fs gs w r s : List ℕ} → Obeys c fs w r → Obeys c gs (w ++ r) s → Obeys c (fs ++ gs) w (r ++ s)
+  obeys-append done q = rw append-nil at q
+  obeys-append (free {w = w} {r = r} {b = b} h o) q = free h (obeys-append o (rw (sym (snoc-cons w r b)) at q))
+  obeys-append (bound {w = w} {r = r} o) q = bound (obeys-append o (rw (sym (snoc-cons w r (frozenBit c (length w) w))) at q))
+
+  -- a prefix over the first i positions is as the code asks; past the last position nothing is claimed
+  abbrev Allowed : ℕ → List ℕ → Type 0
+  Allowed i w = i ≤ length (frozen c) → Obeys c (take i (frozen c)) [] w
+
+  children-allowed : (i : ℕ) (w : List ℕ) → Allowed i w → All (Allowed (suc i)) (children c i w)
   unfolding children
   children-allowed i w a = by-flag (getD (frozen c) i 0) refl
     where
-      child : (b : ℕ) → b < 2 → (getD (frozen c) i 0 ≡ 0) ⊎ (b ≡ 0) → Allowed c (suc i) (w ++ b ∷ [])
-      child b h q = record {
-        long = omega (arith, length-append w (b ∷ []), a .long);
-        bits = bits-snoc b (a .bits) h;
-        keeps = broken-more (frozen c) w b (subst (λ (j : ℕ). (getD (frozen c) j 0 ≡ 0) ⊎ (b ≡ 0)) (sym (a .long)) q) (a .keeps);
-      }
+      child : {f : ℕ} (b : ℕ) → getD (frozen c) i 0 ≡ f → (length w ≡ i → Obeys c (f ∷ []) w (b ∷ [])) → Allowed (suc i) (w ++ b ∷ [])
+      child b e q h =
+          let o : Obeys c (take i (frozen c)) [] w = a (omega arith) in
+          rw (take-suc (frozen c) i 0 h, e) (obeys-append o (q (obeys-long c o ∙ length-take-le i (frozen c) (omega arith))))
 
-      by-flag : (f : ℕ) → getD (frozen c) i 0 ≡ f → All (Allowed c (suc i)) (continued f w)
-      by-flag zero e = more (child 0 (omega arith) (inr refl)) (more (child 1 (omega arith) (inl e)) none)
-      by-flag (suc f) e = more (child 0 (omega arith) (inr refl)) none
+      by-flag : (f : ℕ) → getD (frozen c) i 0 ≡ f → All (Allowed (suc i)) (continued f (frozenBit c i w) w)
+      by-flag zero e = more (child 0 e (λ l. free (omega arith) done)) (more (child 1 e (λ l. free (omega arith) done)) none)
+      by-flag (suc f) e = more (child (frozenBit c i w) e (λ l. subst (λ (k : ℕ). Obeys c (suc f ∷ []) w (frozenBit c k w ∷ [])) l (bound done))) none
 
   abbrev pub Input : List ℕ → Type 0
-  Input = OfPayload c (spread (frozen c))
+  Input = OfPayload c (inputFor c)
 
-  allowed-input : {u : List ℕ} → Allowed c (length (frozen c)) u → Input u
-  allowed-input {u} a = record {
+  obeys-input : {u : List ℕ} → Obeys c (frozen c) [] u → Input u
+  unfolding inputFor
+  obeys-input {u} o = record {
     payload = gathered (frozen c) u;
-    long = length-gathered (frozen c) u (a .long);
-    bits = bits-gathered (frozen c) (a .bits);
-    is = sym (spread-gathered (frozen c) u (a .long) (a .keeps));
+    long = length-gathered (frozen c) u (obeys-long c o);
+    bits = bits-gathered (frozen c) (obeys-bits c nil o);
+    is = sym (obeys-filled c o);
   }
 
   -- so every prefix that is live after all positions is one, whatever the scores and the list size are
   pub live-input : (s : List ℕ → ℤ) (l : ℕ) {u : List ℕ} → In u (liveBy s (children c) l (length (frozen c))) → Input u
-  live-input s l i = allowed-input (all-in (live-all s (children c) l {P = Allowed c} none-allowed children-allowed (length (frozen c))) i)
+  live-input s l {u} i =
+      let n : ℕ = length (frozen c) in
+      let o : Obeys c (take n (frozen c)) [] u = all-in (live-all s (children c) l {P = Allowed} (λ h. done) children-allowed n) i (omega arith) in
+      obeys-input (subst (λ (fs : List ℕ). Obeys c fs [] u) (take-length (frozen c)) o)

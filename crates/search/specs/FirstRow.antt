@@ -7,7 +7,7 @@ use native.Mathlib.Omega.{arith}
 use lib.ListN.{length, take, getD, replicate}
 use lib.Seq.{take-at}
 use lib.IntN.{ℤ, pos}
-use Rattle.spec.specs.Code.{Code, size, frozen, codeTransform}
+use Rattle.spec.specs.Code.{Code, size, frozen, frozenBit, codeTransform}
 use Rattle.spec.specs.Score.{taken}
 use Rattle.spec.specs.Decoder.{Row, continued, children, scoreOf, live, rowOf, rows, ceiling}
 use Rattle.spec.specs.Refusals.{Room}
@@ -34,12 +34,12 @@ knownAt c p r =
 abbrev pub ClearFrom : Code → ℕ → ℕ → Type 0
 ClearFrom c p q = (i : ℕ) → p ≤ i → i < q → getD (frozen c) i 0 ≡ 0
 
--- ---- where a position is clear, a prefix goes on by both bits and scores as the better of the two
+-- ---- where a position is clear, a prefix goes on by both bits, whatever the pairs are, and scores as the better of the two
 clear-at : (c : Code) (y : List ℤ) (l : ℕ) (some : 1 ≤ l) (i : ℕ) → i < size c → getD (frozen c) i 0 ≡ 0
     → Clear (scoreOf (codeTransform c) c y l) (children c) l some (goes c) i
 unfolding children
 clear-at c y l some i h e = record {
-  kids-both = λ w. ap (λ (f : ℕ). continued f w) e;
+  kids-both = λ w. ap (λ (f : ℕ). continued f (frozenBit c i w) w) e;
   splits = λ w long. score-of-children (codeTransform c) (size c) y w (omega (arith, long));
 }
 

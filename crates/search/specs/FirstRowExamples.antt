@@ -1,4 +1,5 @@
--- The first row by two of 01's examples, and that it is known no sooner: a stop position at the last frozen position is not enough.
+-- The first row by two of 01's examples and by a code with a pair, and that it is known no sooner: a stop position at the last frozen
+-- position is not enough.
 use mathlib.Core.Path.{_≡_, refl, ap}
 use mathlib.Core.List.{List, [], _∷_}
 use Prim.Native.Nat.{ℕ, suc}
@@ -7,7 +8,7 @@ use lib.ListN.{replicate}
 use lib.IntN.{ℤ, pos, natAbs}
 use Rattle.spec.specs.Bits.{bitsOf, unpacked}
 use Rattle.spec.specs.Transform.{transform}
-use Rattle.spec.specs.Code.{Code, size, frozen}
+use Rattle.spec.specs.Code.{Code, code, size, frozen, frozenBit}
 use Rattle.spec.specs.Score.{largest, score}
 use Rattle.spec.specs.Decoder.{Row, children, liveBy, rows}
 use Rattle.spec.specs.Faults.{first, some}
@@ -35,8 +36,21 @@ pub first-rows : rowAt frozen01 y₁ 2 ∷ rowAt frozen01 y₁ 4 ∷ rowAt froze
     ∷ row (word4 1 0 0 0) (word4 1 0 0 0) (pos 2)
     ∷ row (word4 0 0 0 0) (word4 0 0 0 0) (pos 0)
     ∷ []
-unfolding dirty y₁ y₂ frozen01 frozen123 bitsOf unpacked transform frozen largest score children liveBy rows first some pastEnd decodeRefusal decodeServed decodeOutcome
+unfolding dirty y₁ y₂ frozen01 frozen123 bitsOf unpacked transform frozen frozenBit largest score children liveBy rows first some pastEnd decodeRefusal decodeServed decodeOutcome
 first-rows = refl
+
+-- a code of four positions with 2 frozen and the pair (2, 1): the bit at 2 is that at 1
+unfoldable pub followed : Code
+followed = code 2 (4 ∷ []) (2 ∷ 0 ∷ 1 ∷ 0 ∷ [])
+
+-- At stop 3 the first three bits and the score are those at stop 4. At stop 2, where the bit that follows is not yet taken, they are not.
+pub first-rows-with-pair : rowAt followed y₂ 2 ∷ rowAt followed y₂ 3 ∷ rowAt followed y₂ 4 ∷ [] ≡
+    row (word4 1 1 0 0) (word4 0 1 0 0) (pos 10)
+    ∷ row (word4 0 1 1 0) (word4 1 0 1 0) (pos 6)
+    ∷ row (word4 0 1 1 1) (word4 0 1 0 1) (pos 6)
+    ∷ []
+unfolding dirty y₂ followed bitsOf unpacked transform frozen frozenBit largest score children liveBy rows first some pastEnd decodeRefusal decodeServed decodeOutcome
+first-rows-with-pair = refl
 
 -- the statement of `first-row-early` for a stop position one less: all behind it are clear, and it may be frozen itself
 abbrev pub Sooner : Type 0
@@ -45,7 +59,7 @@ Sooner = (c : Code) (l p : ℕ) (soft : List ℤ) (x x′ : Lent) → AcceptedCa
 
 -- is false
 pub no-sooner : Sooner → ⊥
-unfolding dirty y₂ frozen123 bitsOf unpacked transform frozen largest score children liveBy rows first some pastEnd decodeRefusal decodeServed decodeOutcome
+unfolding dirty y₂ frozen123 bitsOf unpacked transform frozen frozenBit largest score children liveBy rows first some pastEnd decodeRefusal decodeServed decodeOutcome
 no-sooner claim =
     let scores : pos 2 ≡ pos 0 = ap (λ (r : Row). r .score) (claim frozen123 2 3 y₂ dirty dirty refl refl (λ i a b. absurd (omega arith))) in
     absurd (omega (arith, ap natAbs scores))

@@ -1,18 +1,20 @@
--- A code, its frozen map, and the words of it: 01, "Code and transform".
-use mathlib.Core.Bool.{Bool, true, false}
-use mathlib.Core.List.{List, [], _∷_}
-use Prim.Native.Nat.{ℕ, zero, suc, _+_, _/_, _^_}
-use lib.ListN.{take}
-use Rattle.spec.specs.Bits.{unpacked}
+-- A code, its frozen map, its pairs, and the words of it: 01, "Code and transform"; 02, wish 6.
+use mathlib.Core.Bool.{Bool, false, not, cond, _||_}
+use mathlib.Core.List.{List, [], _∷_, _++_}
+use Prim.Native.Nat.{ℕ, zero, suc, _+_, _*_, _/_, _^_}
+use lib.ListN.{length, take, getD}
+use lib.Dec.{eqb}
+use Rattle.spec.specs.Bits.{_⊕_, unpacked}
 use Rattle.spec.specs.Transform.{transform, inverse}
 
--- what 01 calls the code: m, and the frozen map as bytes
+-- what 01 calls the code: m, and the frozen map and the pairs as bytes
 pub record Code : Type 0 where
   pub m : ℕ
   pub map : List ℕ
+  pub pairs : List ℕ
 
-abbrev pub code : ℕ → List ℕ → Code
-code m map = record { m = m; map = map }
+abbrev pub code : ℕ → List ℕ → List ℕ → Code
+code m map pairs = record { m = m; map = map; pairs = pairs }
 
 -- n
 abbrev pub size : Code → ℕ
@@ -36,12 +38,42 @@ clear (suc f ∷ fs) = clear fs
 abbrev pub payloadSize : Code → ℕ
 payloadSize c = clear (frozen c)
 
--- the input: the payload's bits at the clear positions in rising order, and 0 at each frozen one
-abbrev pub spread : List ℕ → List ℕ → List ℕ
-spread [] p = []
-spread (zero ∷ fs) [] = 0 ∷ spread fs []
-spread (zero ∷ fs) (b ∷ p) = b ∷ spread fs p
-spread (suc f ∷ fs) p = 0 ∷ spread fs p
+-- ---- a pair (f, e): 02, wish 6. The bit at the frozen position f is the sum of those at all its e.
+pub record Pair : Type 0 where
+  pub f : ℕ
+  pub e : ℕ
+
+abbrev pub pair : ℕ → ℕ → Pair
+pair f e = record { f = f; e = e }
+
+-- four bytes a pair: f, then e, low byte first; a part of a pair at the end is none
+abbrev pub pairsIn : List ℕ → List Pair
+pairsIn [] = []
+pairsIn (a ∷ []) = []
+pairsIn (a ∷ b ∷ []) = []
+pairsIn (a ∷ b ∷ c ∷ []) = []
+pairsIn (a ∷ b ∷ c ∷ d ∷ s) = pair (a + 256 * b) (c + 256 * d) ∷ pairsIn s
+
+-- the sum modulo 2 of the bits of w at all e that stand with i; 0 where no pair does
+abbrev pub sumAt : List Pair → ℕ → List ℕ → ℕ
+sumAt [] i w = 0
+sumAt (p ∷ ps) i w = cond (eqb (p .f) i) (getD w (p .e) 0 ⊕ sumAt ps i w) (sumAt ps i w)
+
+-- the bit at the frozen position i of an input that begins with w
+unfoldable pub frozenBit : Code → ℕ → List ℕ → ℕ
+frozenBit c i w = sumAt (pairsIn (c .pairs)) i w
+
+-- ---- inputs
+-- w, gone on over positions with these flags: by the payload's bits at the clear ones in rising order, by its own sum at each frozen one
+abbrev pub filled : Code → List ℕ → List ℕ → List ℕ → List ℕ
+filled c [] p w = w
+filled c (zero ∷ fs) [] w = filled c fs [] (w ++ 0 ∷ [])
+filled c (zero ∷ fs) (b ∷ p) w = filled c fs p (w ++ b ∷ [])
+filled c (suc f ∷ fs) p w = filled c fs p (w ++ frozenBit c (length w) w ∷ [])
+
+-- the input of a payload
+unfoldable pub inputFor : Code → List ℕ → List ℕ
+inputFor c payload = filled c (frozen c) payload []
 
 -- the bits of an input at the clear positions
 abbrev pub gathered : List ℕ → List ℕ → List ℕ
@@ -50,21 +82,24 @@ gathered (f ∷ fs) [] = []
 gathered (zero ∷ fs) (b ∷ u) = b ∷ gathered fs u
 gathered (suc f ∷ fs) (b ∷ u) = gathered fs u
 
--- a frozen bit of an input is not 0
-abbrev pub broken : List ℕ → List ℕ → Bool
-broken [] u = false
-broken (f ∷ fs) [] = false
-broken (zero ∷ fs) (b ∷ u) = broken fs u
-broken (suc f ∷ fs) (zero ∷ u) = broken fs u
-broken (suc f ∷ fs) (suc b ∷ u) = true
+-- from position i on, where the flags are these, some frozen bit of the input u is not the sum that its rule gives
+abbrev pub brokenFrom : Code → List ℕ → ℕ → List ℕ → Bool
+brokenFrom c u i [] = false
+brokenFrom c u i (zero ∷ fs) = brokenFrom c u (suc i) fs
+brokenFrom c u i (suc f ∷ fs) = not (eqb (getD u i 0) (frozenBit c i u)) || brokenFrom c u (suc i) fs
 
+-- a bit of an input breaks its rule
+unfoldable pub broken : Code → List ℕ → Bool
+broken c u = brokenFrom c u 0 (frozen c)
+
+-- ---- words
 -- the transform that the code uses
 abbrev pub codeTransform : Code → List ℕ → List ℕ
 codeTransform c = transform (c .m)
 
 -- the code word of a payload, the input of a word, and the payload of a word
 unfoldable pub encoded : Code → List ℕ → List ℕ
-encoded c payload = codeTransform c (spread (frozen c) payload)
+encoded c payload = codeTransform c (inputFor c payload)
 
 unfoldable pub inputOf : Code → List ℕ → List ℕ
 inputOf c word = inverse (c .m) word

@@ -7,7 +7,7 @@ use lib.ListN.{length, take, drop, getD, replicate}
 use lib.IntN.{ℤ}
 use lib.Dec.{ltb, eqb}
 use lib.Signed.{leZ}
-use Rattle.spec.specs.Code.{Code, size, frozen}
+use Rattle.spec.specs.Code.{Code, size, frozen, frozenBit}
 use Rattle.spec.specs.Score.{maxℤ, score}
 
 -- insertion sort by a test le, where le x y says that x may stand before y
@@ -30,14 +30,14 @@ lexBefore (x ∷ v) (y ∷ w) = ltb x y || (eqb x y && lexBefore v w)
 abbrev pub ahead : (List ℕ → ℤ) → List ℕ → List ℕ → Bool
 ahead s v w = not (leZ (s v) (s w)) || (leZ (s w) (s v) && lexBefore v w)
 
--- a prefix goes on by 0 and by 1 at a clear position, by 0 at a frozen one
-abbrev pub continued : ℕ → List ℕ → List (List ℕ)
-continued zero w = (w ++ 0 ∷ []) ∷ (w ++ 1 ∷ []) ∷ []
-continued (suc f) w = (w ++ 0 ∷ []) ∷ []
+-- a prefix goes on by 0 and by 1 at a clear position, by the bit b at a frozen one
+abbrev pub continued : ℕ → ℕ → List ℕ → List (List ℕ)
+continued zero b w = (w ++ 0 ∷ []) ∷ (w ++ 1 ∷ []) ∷ []
+continued (suc f) b w = (w ++ b ∷ []) ∷ []
 
--- the children of a prefix of a code at position i
+-- the children of a prefix of a code at position i: where that is frozen each prefix goes on with its own sum
 unfoldable pub children : Code → ℕ → List ℕ → List (List ℕ)
-children c i w = continued (getD (frozen c) i 0) w
+children c i w = continued (getD (frozen c) i 0) (frozenBit c i w) w
 
 -- the children of all prefixes of a list
 abbrev pub families : (List ℕ → List (List ℕ)) → List (List ℕ) → List (List ℕ)

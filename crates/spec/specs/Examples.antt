@@ -6,7 +6,7 @@ use lib.ListN.{replicate}
 use lib.IntN.{ℤ, pos, negsuc}
 use Rattle.spec.specs.Bits.{bitsOf, unpacked}
 use Rattle.spec.specs.Transform.{transform, inverse}
-use Rattle.spec.specs.Code.{Code, code, frozen, codeTransform, encoded, inputOf, extracted}
+use Rattle.spec.specs.Code.{Code, code, frozen, frozenBit, inputFor, broken, codeTransform, encoded, inputOf, extracted}
 use Rattle.spec.specs.Score.{taken, largest, score}
 use Rattle.spec.specs.Decoder.{Row, children, liveBy, droppedBy, rows, ceilingBy, ceiling}
 use Rattle.spec.specs.Faults.{first, some}
@@ -46,13 +46,21 @@ yₘ = replicate 4 (negsuc 2047)
 
 -- codes of four positions by their map: frozen 0 and 1; frozen 1, 2 and 3; nothing frozen
 unfoldable pub frozen01 : Code
-frozen01 = code 2 (3 ∷ [])
+frozen01 = code 2 (3 ∷ []) []
 
 unfoldable pub frozen123 : Code
-frozen123 = code 2 (14 ∷ [])
+frozen123 = code 2 (14 ∷ []) []
 
 unfoldable pub noneFrozen : Code
-noneFrozen = code 2 (0 ∷ [])
+noneFrozen = code 2 (0 ∷ []) []
+
+-- frozen 0, 2 and 3 with these pairs
+abbrev pub paired : List ℕ → Code
+paired pairs = code 2 (13 ∷ []) pairs
+
+-- (2, 1), (3, 1) and (3, 2): the bit at 2 is that at 1, the bit at 3 the sum of both, which is 0
+unfoldable pub summed : Code
+summed = paired (2 ∷ 0 ∷ 1 ∷ 0 ∷ 3 ∷ 0 ∷ 1 ∷ 0 ∷ 3 ∷ 0 ∷ 2 ∷ 0 ∷ [])
 
 abbrev pub shown : Row → List ℕ × ℤ
 shown r = (r .input, r .score)
@@ -92,8 +100,20 @@ table =
     -- 02, wish 5: the ceiling of 01's sixth example, frozen 1, 2 and 3, is 8 at l = 1; at l = 2 it is 0, the first row's score. At p = 0 it
     -- is the sum of the magnitudes.
     ∷ (scores (ceilingAt frozen123 y₂ 1 4 ∷ ceilingAt frozen123 y₂ 2 4 ∷ ceilingAt noneFrozen y₁ 2 0 ∷ []) is scores (pos 8 ∷ pos 0 ∷ pos 17 ∷ []))
+    -- 02, wish 6: the encoder fills the bits that follow others; the extractor refuses 1000 and 1100 with 12, since their inputs 1000 and 0100
+    -- break a rule; each path goes on with its own sum
+    ∷ (words (map (inputFor summed) ((0 ∷ []) ∷ (1 ∷ []) ∷ [])) is words (word4 0 0 0 0 ∷ word4 0 1 1 0 ∷ []))
+    ∷ (call (encodeOutcome summed (1 ∷ []) (word4 9 9 9 9)) is call (written 0 (word4 1 0 1 0)))
+    ∷ (call (extractOutcome summed (word4 1 0 1 0) (9 ∷ [])) is call (written 0 (1 ∷ [])))
+    ∷ (words (map (λ (w : List ℕ). extractRefusal summed w 1 ∷ []) (word4 1 0 0 0 ∷ word4 1 1 0 0 ∷ word4 0 0 0 0 ∷ [])) is words ((12 ∷ []) ∷ (12 ∷ []) ∷ (0 ∷ []) ∷ []))
+    ∷ (decoded (map shown (decode summed y₁ 2 4)) is decoded ((word4 0 0 0 0, pos 11) ∷ (word4 0 1 1 0, negsuc 2) ∷ []))
+    -- 15: f clear, past n, e = f, a pair twice, falling, a part of a pair; then none; and 3 before it, 6 after it
+    ∷ (words (map (λ (ps : List ℕ). encodeRefusal (paired ps) (1 ∷ []) 4 ∷ [])
+    ((1 ∷ 0 ∷ 0 ∷ 0 ∷ []) ∷ (4 ∷ 0 ∷ 0 ∷ 0 ∷ []) ∷ (2 ∷ 0 ∷ 2 ∷ 0 ∷ []) ∷ (2 ∷ 0 ∷ 1 ∷ 0 ∷ 2 ∷ 0 ∷ 1 ∷ 0 ∷ []) ∷ (3 ∷ 0 ∷ 0 ∷ 0 ∷ 2 ∷ 0 ∷ 1 ∷ 0 ∷ []) ∷ (2 ∷ 0 ∷ 1 ∷ []) ∷ (3 ∷ 0 ∷ 2 ∷ 0 ∷ []) ∷ []))
+    is words ((15 ∷ []) ∷ (15 ∷ []) ∷ (15 ∷ []) ∷ (15 ∷ []) ∷ (15 ∷ []) ∷ (15 ∷ []) ∷ (0 ∷ []) ∷ []))
+    ∷ (words ((encodeRefusal (code 2 (29 ∷ []) (2 ∷ [])) [] 4 ∷ []) ∷ (encodeRefusal (paired (2 ∷ [])) [] 4 ∷ []) ∷ []) is words ((3 ∷ []) ∷ (15 ∷ []) ∷ []))
     ∷ []
 
 pub starred-examples : map (λ (e : Example). e .found) table ≡ map (λ (e : Example). e .stated) table
-unfolding table y₀ y₁ y₂ yₘ frozen01 frozen123 noneFrozen bitsOf unpacked transform inverse frozen encoded inputOf extracted largest score children liveBy droppedBy rows ceilingBy first some pastEnd encodeRefusal encodeOutcome extractRefusal extractOutcome decodeRefusal decodeServed decodeOutcome
+unfolding table y₀ y₁ y₂ yₘ frozen01 frozen123 noneFrozen summed bitsOf unpacked transform inverse frozen frozenBit inputFor broken encoded inputOf extracted largest score children liveBy droppedBy rows ceilingBy first some pastEnd encodeRefusal encodeOutcome extractRefusal extractOutcome decodeRefusal decodeServed decodeOutcome
 starred-examples = refl

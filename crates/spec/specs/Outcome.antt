@@ -9,7 +9,7 @@ use Rattle.spec.specs.Score.{taken}
 use Rattle.spec.specs.Decoder.{Row, rows, ceiling}
 use Rattle.spec.specs.Faults.{first, settled}
 use Rattle.spec.specs.Refusals.{Room, room, encodeFaults, extractFaults, decodeFaults}
-use Rattle.spec.specs.Record.{exponent, listSize, stopPosition, frameNumber, recordMap, recordSoft, shapeFaults, fieldFaults}
+use Rattle.spec.specs.Record.{exponent, listSize, stopPosition, frameNumber, recordMap, recordSoft, pairCount, recordPairs, shapeFaults, fieldFaults}
 
 -- a list at the front of a slice of n places, and z behind it
 abbrev pub padded : {A : Type 0} → A → ℕ → List A → List A
@@ -86,29 +86,32 @@ unfoldable pub decodeOutcome : Code → ℕ → ℕ → List ℤ → Lent → De
 decodeOutcome c l p soft x =
     settled (decodeRefusal c l p soft (roomOf x)) (λ k. decoding (refusedBy k) x) (decodeServed c l p soft (roomOf x))
 
--- ---- record reader: m, list size, stop position and frame number, or the refusal number, and the two lent slices: the frozen map, and
--- the soft values as they are taken
+-- ---- record reader: m, list size, stop position, frame number and the number of pairs, or the refusal number, and the three lent slices:
+-- the frozen map, the soft values as they are taken, and the pairs
 pub data Job : Type 0 where
-  job : ℕ → ℕ → ℕ → ℕ → Job
+  job : ℕ → ℕ → ℕ → ℕ → ℕ → Job
   refusedJob : ℕ → Job
 
 pub record Reading : Type 0 where
   pub answer : Job
   pub map : List ℕ
   pub soft : List ℤ
+  pub pairs : List ℕ
 
-abbrev pub reading : Job → List ℕ → List ℤ → Reading
-reading a map soft = record { answer = a; map = map; soft = soft }
+abbrev pub reading : Job → List ℕ → List ℤ → List ℕ → Reading
+reading a map soft pairs = record { answer = a; map = map; soft = soft; pairs = pairs }
 
-unfoldable pub readRefusal : List ℕ → ℕ → ℕ → ℕ
-readRefusal s maps softs = first (shapeFaults s ++ fieldFaults s maps softs)
+unfoldable pub readRefusal : List ℕ → ℕ → ℕ → ℕ → ℕ
+readRefusal s maps softs pairs = first (shapeFaults s ++ fieldFaults s maps softs pairs)
 
-unfoldable pub readServed : List ℕ → ℕ → ℕ → Reading
-readServed s maps softs = reading
-    (job (exponent s) (listSize s) (stopPosition s) (frameNumber s))
+unfoldable pub readServed : List ℕ → ℕ → ℕ → ℕ → Reading
+readServed s maps softs pairs = reading
+    (job (exponent s) (listSize s) (stopPosition s) (frameNumber s) (pairCount s))
     (padded 0 maps (recordMap s))
     (padded (pos 0) softs (taken (recordSoft s)))
+    (padded 0 pairs (recordPairs s))
 
-unfoldable pub readOutcome : List ℕ → List ℕ → List ℤ → Reading
-readOutcome s map soft =
-    settled (readRefusal s (length map) (length soft)) (λ k. reading (refusedJob k) map soft) (readServed s (length map) (length soft))
+unfoldable pub readOutcome : List ℕ → List ℕ → List ℤ → List ℕ → Reading
+readOutcome s map soft pairs =
+    settled (readRefusal s (length map) (length soft) (length pairs)) (λ k. reading (refusedJob k) map soft pairs)
+    (readServed s (length map) (length soft) (length pairs))

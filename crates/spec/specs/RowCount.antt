@@ -8,7 +8,7 @@ use native.Mathlib.Nat.{pow-suc}
 use lib.ListN.{length, take, getD, length-take, length-map, length-append}
 use lib.IntN.{ℤ}
 use Rattle.spec.specs.Bits.{bitsOf, unpacked}
-use Rattle.spec.specs.Code.{Code, size, mapBytes, frozen, clear}
+use Rattle.spec.specs.Code.{Code, size, mapBytes, frozen, clear, frozenBit}
 use Rattle.spec.specs.Decoder.{insertBy, sortBy, ahead, continued, children, families, liveBy, scoreOf, live, rows, rowOf}
 
 -- ---- a sort keeps the length
@@ -34,12 +34,13 @@ times : ℕ → ℕ → ℕ
 times zero n = 2 * n
 times (suc f) n = n
 
-length-families : (f : ℕ) (ws : List (List ℕ)) → length (families (continued f) ws) ≡ times f (length ws)
+-- whatever bit each prefix goes on with
+length-families : (f : ℕ) (b : List ℕ → ℕ) (ws : List (List ℕ)) → length (families (λ w. continued f (b w) w) ws) ≡ times f (length ws)
 unfolding times
-length-families zero [] = refl
-length-families (suc f) [] = refl
-length-families zero (w ∷ ws) = omega (arith, length-families zero ws)
-length-families (suc f) (w ∷ ws) = ap suc (length-families (suc f) ws)
+length-families zero b [] = refl
+length-families (suc f) b [] = refl
+length-families zero b (w ∷ ws) = omega (arith, length-families zero b ws)
+length-families (suc f) b (w ∷ ws) = ap suc (length-families (suc f) b ws)
 
 cut-times : (f l q n : ℕ) → n ≡ min l (2 ^ q) → min l (times f n) ≡ min l (2 ^ kept f q)
 unfolding times
@@ -65,8 +66,9 @@ module _ (T : List ℕ → List ℕ) (c : Code) (y : List ℤ) (l : ℕ) (l≥1 
   length-live (suc i) h =
       let ws : List (List ℕ) = live T c y l i in
       let f : ℕ = getD (frozen c) i 0 in
-      length-take l (sortBy (ahead (scoreOf T c y l)) (families (continued f) ws))
-      ∙ ap (min l) (length-sort (ahead (scoreOf T c y l)) (families (continued f) ws) ∙ length-families f ws)
+      let kids : List ℕ → List (List ℕ) = λ w. continued f (frozenBit c i w) w in
+      length-take l (sortBy (ahead (scoreOf T c y l)) (families kids ws))
+      ∙ ap (min l) (length-sort (ahead (scoreOf T c y l)) (families kids ws) ∙ length-families f (frozenBit c i) ws)
       ∙ cut-times f l (clear (take i (frozen c))) (length ws) (length-live i (omega arith))
       ∙ ap (λ (q : ℕ). min l (2 ^ q)) (sym (clear-suc (frozen c) i h))
 

@@ -11,10 +11,10 @@ use Rattle.block_output.proofs.write_decoded.Statement.{statement}
 use Rattle.block_output.proofs.write_decoded.Tie as tie
 
 abbrev start : tie.After-decode → tie.Start
-start d = d .before .before .before .before .before .before .before .before
+start d = d .before .before .before .before .before .before .before .before .before
 
 abbrev coded : tie.After-decode → Code
-coded d = code (start d .args .m) (start d .args .map .now)
+coded d = code (start d .args .m) (start d .args .map .now) (start d .args .pairs .now)
 
 -- what the decoder answers and leaves
 abbrev decoded : tie.After-decode → Decoding
@@ -22,7 +22,7 @@ decoded d =
     let z = d .decode .last in
     decoding
     (answerOf (d .decode .result))
-    (lent (z .1 .1 .1 .1 .1 .0) (z .1 .1 .1 .1 .1 .1 .0) (z .1 .1 .1 .1 .1 .1 .1 .0) (z .1 .1 .1 .1 .1 .1 .1 .1 .0) (z .1 .1 .1 .1 .1 .1 .1 .1 .1 .0))
+    (lent (z .1 .1 .1 .1 .1 .1 .0) (z .1 .1 .1 .1 .1 .1 .1 .0) (z .1 .1 .1 .1 .1 .1 .1 .1 .0) (z .1 .1 .1 .1 .1 .1 .1 .1 .1 .0) (z .1 .1 .1 .1 .1 .1 .1 .1 .1 .1 .0))
 
 slice-aggregate-decode : tie.Need-slice-aggregate-decode
 slice-aggregate-decode c = omega arith
@@ -60,7 +60,7 @@ write-answer-requires c κs =
     = omega (arith, answer-rows (coded d) (a .l) (a .p) (a .frame) (a .soft .now) (decoded d) (d .decode .ensures), s .pre .2) in
     let fit = four-fit (rowsAnswered (decoded d .answer)) (a .n) few (s .pre .1) in
     let k = d .decode .kept in
-    (omega (arith, k .1 .1 .1 .1 .1 .1 .1 .0), omega (arith, k .1 .1 .1 .1 .1 .1 .1 .1 .0), omega (arith, k .1 .1 .1 .1 .1 .1 .1 .1 .1 .0), omega (arith, s .pre .3))
+    (omega (arith, k .1 .1 .1 .1 .1 .1 .1 .1 .0), omega (arith, k .1 .1 .1 .1 .1 .1 .1 .1 .1 .0), omega (arith, k .1 .1 .1 .1 .1 .1 .1 .1 .1 .1 .0), omega (arith, s .pre .3))
 
 same-length : tie.Need-same-length
 same-length c = omega arith

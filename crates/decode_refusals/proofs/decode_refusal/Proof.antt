@@ -13,15 +13,15 @@ use Rattle.decode_refusals.proofs.decode_refusal.Statement.{statement}
 use Rattle.decode_refusals.proofs.decode_refusal.Tie as tie
 
 -- what a table in which nothing applies says
-m-fits : (m : ℕ) (map : List ℕ) → First (codeFaults (code m map)) 0 → (2 ≤ m) × (m ≤ 10)
-m-fits m map (later e f) = inside-of 2 10 m e
+m-fits : (m : ℕ) (map pairs : List ℕ) → First (codeFaults (code m map pairs)) 0 → (2 ≤ m) × (m ≤ 10)
+m-fits m map pairs (later e f) = inside-of 2 10 m e
 
 l-fits : (n l p : ℕ) (soft : List ℤ) → First (runFaults n l p soft) 0 → (1 ≤ l) × (l ≤ 32)
 l-fits n l p soft (later e f) = inside-of 1 32 l e
 
 -- the three parts
 codeF : tie.Start → List Fault
-codeF c = codeFaults (code (c .args .m) (c .args .map .now))
+codeF c = codeFaults (code (c .args .m) (c .args .map .now) (c .args .pairs .now))
 
 run : tie.Start → ℕ → List Fault
 run c n = runFaults n (c .args .l) (c .args .p) (c .args .soft .now)
@@ -32,11 +32,11 @@ lentF c n = tableFaults n (c .args .l) (room (c .args .numbers) (c .args .bytes)
 table : tie.Start → List Fault
 table c = codeF c ++ (run c (2 ^ c .args .m) ++ lentF c (2 ^ c .args .m))
 
-code-found : (c : tie.After-code-refusal) → First (codeF (c .before .before)) (c .code-refusal .result)
+code-found : (c : tie.After-code-refusal) → First (codeF (c .before .before .before)) (c .code-refusal .result)
 unfolding codeF
-code-found c = of-first (codeF (c .before .before)) (c .code-refusal .result) (c .code-refusal .ensures)
+code-found c = of-first (codeF (c .before .before .before)) (c .code-refusal .result) (c .code-refusal .ensures)
 
-code-none : (c : tie.Else1) → First (codeF (c .before .before .before)) 0
+code-none : (c : tie.Else1) → First (codeF (c .before .before .before .before)) 0
 code-none c = rw (c .if1 .left) at (code-found (c .before))
 
 code-requires : tie.Need-code-refusal-requires
@@ -45,45 +45,45 @@ code-requires c κs = search needs
 returns : tie.Need-returns
 unfolding table codeF run lentF
 returns c =
-    let s = c .before .before .before in
+    let s = c .before .before .before .before in
     is-first (table s) (c .before .code-refusal .result)
     (found-before (run s (2 ^ s .args .m) ++ lentF s (2 ^ s .args .m)) (code-found (c .before)) (c .if1 .taken))
 
 size-requires : tie.Need-size-requires
 unfolding codeF
-size-requires c κs = m-fits (c .before .before .before .args .m) (c .before .before .before .args .map .now) (code-none c) .1
+size-requires c κs = m-fits (c .before .before .before .before .args .m) (c .before .before .before .before .args .map .now) (c .before .before .before .before .args .pairs .now) (code-none c) .1
 
 run-requires : tie.Need-run-refusal-requires
 run-requires c κs = search needs
 
-run-found : (c : tie.After-run-refusal) → First (run (c .before .before .before .before .before) (2 ^ c .before .before .before .before .before .args .m)) (c .run-refusal .result)
+run-found : (c : tie.After-run-refusal) → First (run (c .before .before .before .before .before .before) (2 ^ c .before .before .before .before .before .before .args .m)) (c .run-refusal .result)
 unfolding run
 run-found c =
-    let s = c .before .before .before .before .before in
+    let s = c .before .before .before .before .before .before in
     of-first (run s (2 ^ s .args .m)) (c .run-refusal .result) (c .run-refusal .ensures ∙ ap (λ (n : ℕ). first (run s n)) (c .before .size .ensures .0))
 
-run-none : (c : tie.Else2) → First (run (c .before .before .before .before .before .before) (2 ^ c .before .before .before .before .before .before .args .m)) 0
+run-none : (c : tie.Else2) → First (run (c .before .before .before .before .before .before .before) (2 ^ c .before .before .before .before .before .before .before .args .m)) 0
 run-none c = rw (c .if2 .left) at (run-found (c .before))
 
 returns-2 : tie.Need-returns-2
 unfolding table codeF run lentF
 returns-2 c =
-    let s = c .before .before .before .before .before .before in
+    let s = c .before .before .before .before .before .before .before in
     is-first (table s) (c .before .run-refusal .result)
-    (found-after (next (next (next end))) (code-none (c .before .before .before)) (found-before (lentF s (2 ^ s .args .m)) (run-found (c .before)) (c .if2 .taken)))
+    (found-after (next (next (next (next (next (next end)))))) (code-none (c .before .before .before)) (found-before (lentF s (2 ^ s .args .m)) (run-found (c .before)) (c .if2 .taken)))
 
 room-requires : tie.Need-table-refusal-requires
 unfolding run
 room-requires c κs =
-    let s = c .before .before .before .before .before .before in
+    let s = c .before .before .before .before .before .before .before in
     (c .before .before .size .ensures .1, l-fits (2 ^ s .args .m) (s .args .l) (s .args .p) (s .args .soft .now) (run-none c) .1)
 
 returns-3 : tie.Need-returns-3
 unfolding table codeF run lentF
 returns-3 c =
-    let s = c .before .before .before .before .before .before .before in
+    let s = c .before .before .before .before .before .before .before .before in
     is-first (table s) (c .table-refusal .result)
-    (found-after (next (next (next end))) (code-none (c .before .before .before .before))
+    (found-after (next (next (next (next (next (next end)))))) (code-none (c .before .before .before .before))
     (found-after (next (next (next (next end)))) (run-none (c .before))
     (of-first (lentF s (2 ^ s .args .m)) (c .table-refusal .result) (c .table-refusal .ensures ∙ ap (λ (n : ℕ). first (lentF s n)) (c .before .before .before .size .ensures .0)))))
 

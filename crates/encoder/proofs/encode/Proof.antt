@@ -20,7 +20,7 @@ use Rattle.encoder.proofs.encode.Statement.{statement}
 use Rattle.encoder.proofs.encode.Tie as tie
 
 abbrev given : tie.Start → Code
-given c = code (c .args .m) (c .args .map .now)
+given c = code (c .args .m) (c .args .map .now) (c .args .pairs .now)
 
 abbrev table : tie.Start → List Fault
 table c = givenFaults (given c) (payloadSize (given c)) (c .args .payload .now)
@@ -29,7 +29,7 @@ abbrev rest : tie.Start → List Fault
 rest c = roomFault (size (given c)) (length (c .args .word .now)) ∷ []
 
 abbrev start : tie.Else1 → tie.Start
-start c = c .before .before .before .before .before
+start c = c .before .before .before .before .before .before
 
 payload-refusal-requires : tie.Need-payload-refusal-requires
 payload-refusal-requires c κs = search needs
@@ -37,7 +37,7 @@ payload-refusal-requires c κs = search needs
 returns : tie.Need-returns
 unfolding encodeRefusal
 returns c =
-    let s = c .before .before .before .before .before in
+    let s = c .before .before .before .before .before .before in
     let r = c .before .payload-refusal in
     encode-refused (given s) (s .args .payload .now) (s .args .word .now) (r .result)
     (first-before (table s) (rest s) (r .result) (r .ensures) (c .if1 .taken)) (c .if1 .taken)
@@ -95,7 +95,7 @@ returns-3 c =
     let out = s .args .word .now in
     ap (written 0)
     (c .before .before .fill-bytes .ensures
-    ∙ filled-behind 0 (w .write-word .last .1 .1 .1 .0) out n (w .write-word .kept .1 .1 .1 .0 ∙ length-take-le n out (l .if2 .left)) (l .if2 .left)
+    ∙ filled-behind 0 (w .write-word .last .1 .1 .1 .1 .0) out n (w .write-word .kept .1 .1 .1 .1 .0 ∙ length-take-le n out (l .if2 .left)) (l .if2 .left)
     ∙ ap (padded 0 (length out)) (w .write-word .ensures))
     ∙ encode-served (given s) (s .args .payload .now) out
     (passed e 0 (is-first (rest s) 0 (later (le-ltb (length out) (2 ^ s .args .m) (omega (arith, l .if2 .left))) none)))

@@ -13,7 +13,7 @@ use Rattle.encoder.proofs.payload_refusal.Statement.{statement}
 use Rattle.encoder.proofs.payload_refusal.Tie as tie
 
 abbrev given : tie.Start → Code
-given c = code (c .args .m) (c .args .map .now)
+given c = code (c .args .m) (c .args .map .now) (c .args .pairs .now)
 
 abbrev rest : tie.Start → List Fault
 rest c = bitFaults (payloadSize (given c)) (c .args .payload .now)
@@ -23,12 +23,13 @@ code-refusal-requires c κs = search needs
 
 returns : tie.Need-returns
 returns c =
-    let s = c .before .before .before .before in
+    let s = c .before .before .before .before .before in
     first-before (codeFaults (given s)) (rest s) (c .before .code-refusal .result) (c .before .code-refusal .ensures) (c .if1 .taken)
 
 payload-size-requires : tie.Need-payload-size-requires
 payload-size-requires c κs =
-    accepted (given (c .before .before .before .before)) (sym (c .if1 .left) ∙ c .before .code-refusal .ensures)
+    let a = accepted (given (c .before .before .before .before .before)) (sym (c .if1 .left) ∙ c .before .code-refusal .ensures) in
+    (a .high, a .bytes, a .ends)
 
 bit-refusal-requires : tie.Need-bit-refusal-requires
 bit-refusal-requires c κs = search needs
@@ -36,9 +37,9 @@ bit-refusal-requires c κs = search needs
 returns-2 : tie.Need-returns-2
 returns-2 c =
     let e = c .before .before in
-    let s = e .before .before .before .before in
+    let s = e .before .before .before .before .before in
     first-after (codeFaults (given s)) (rest s) (e .before .code-refusal .result) (e .before .code-refusal .ensures) (code-numbers (given s)) (e .if1 .left)
-    (c .bit-refusal .result) (c .bit-refusal .ensures ∙ ap (λ (k : ℕ). first (bitFaults k (s .args .payload .now))) (c .before .payload-size .ensures))
+    (c .bit-refusal .result) (c .bit-refusal .ensures ∙ ap (λ (k : ℕ). first (bitFaults k (s .args .payload .now))) (c .before .payload-size .ensures (s .args .pairs .now)))
 
 pub payload-refusal-spec : {M : Type 1} → statement M
 payload-refusal-spec =

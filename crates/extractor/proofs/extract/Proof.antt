@@ -16,7 +16,7 @@ use Rattle.extractor.proofs.extract.Statement.{statement}
 use Rattle.extractor.proofs.extract.Tie as tie
 
 abbrev given : tie.Start → Code
-given c = code (c .args .m) (c .args .map .now)
+given c = code (c .args .m) (c .args .map .now) (c .args .pairs .now)
 
 abbrev table : tie.Start → List Fault
 table c = givenFaults (given c) (2 ^ c .args .m) (c .args .word .now)
@@ -25,7 +25,7 @@ abbrev rest : tie.Start → List Fault
 rest c = inputFaults (given c) (inputOf (given c) (c .args .word .now)) (length (c .args .payload .now))
 
 abbrev start : tie.Else1 → tie.Start
-start c = c .before .before .before .before .before
+start c = c .before .before .before .before .before .before
 
 word-refusal-requires : tie.Need-word-refusal-requires
 word-refusal-requires c κs = search needs
@@ -33,7 +33,7 @@ word-refusal-requires c κs = search needs
 returns : tie.Need-returns
 unfolding extractRefusal
 returns c =
-    let s = c .before .before .before .before .before in
+    let s = c .before .before .before .before .before .before in
     let r = c .before .word-refusal in
     extract-refused (given s) (s .args .word .now) (s .args .payload .now) (r .result)
     (first-before (table s) (rest s) (r .result) (r .ensures) (c .if1 .taken)) (c .if1 .taken)

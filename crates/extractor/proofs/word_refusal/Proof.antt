@@ -13,7 +13,7 @@ use Rattle.extractor.proofs.word_refusal.Statement.{statement}
 use Rattle.extractor.proofs.word_refusal.Tie as tie
 
 abbrev given : tie.Start → Code
-given c = code (c .args .m) (c .args .map .now)
+given c = code (c .args .m) (c .args .map .now) (c .args .pairs .now)
 
 abbrev rest : tie.Start → List Fault
 rest c = bitFaults (2 ^ c .args .m) (c .args .word .now)
@@ -23,12 +23,12 @@ code-refusal-requires c κs = search needs
 
 returns : tie.Need-returns
 returns c =
-    let s = c .before .before .before .before in
+    let s = c .before .before .before .before .before in
     first-before (codeFaults (given s)) (rest s) (c .before .code-refusal .result) (c .before .code-refusal .ensures) (c .if1 .taken)
 
 size-requires : tie.Need-size-requires
 size-requires c κs =
-    accepted (given (c .before .before .before .before)) (sym (c .if1 .left) ∙ c .before .code-refusal .ensures) .high
+    accepted (given (c .before .before .before .before .before)) (sym (c .if1 .left) ∙ c .before .code-refusal .ensures) .high
 
 bit-refusal-requires : tie.Need-bit-refusal-requires
 bit-refusal-requires c κs = search needs
@@ -36,7 +36,7 @@ bit-refusal-requires c κs = search needs
 returns-2 : tie.Need-returns-2
 returns-2 c =
     let e = c .before .before in
-    let s = e .before .before .before .before in
+    let s = e .before .before .before .before .before in
     first-after (codeFaults (given s)) (rest s) (e .before .code-refusal .result) (e .before .code-refusal .ensures) (code-numbers (given s)) (e .if1 .left)
     (c .bit-refusal .result) (c .bit-refusal .ensures ∙ ap (λ (n : ℕ). first (bitFaults n (s .args .word .now))) (c .before .size .ensures .0))
 

@@ -1,6 +1,6 @@
 -- `extractor::write_payload` meets its contract: at each `return` the tests that were passed and the one that was not, and at
 -- the last the payload with 0 behind it. Assumes nothing.
-use mathlib.Core.Path.{_≡_, sym, ap, _∙_}
+use mathlib.Core.Path.{_≡_, sym, ap, subst, _∙_}
 use mathlib.Core.List.{List}
 use Prim.Native.Nat.{ℕ, _*_, _^_, _≤_}
 use native.Mathlib.Omega.{arith}
@@ -9,9 +9,10 @@ use borrow.Author.Tests.{ltb-false}
 use lib.Dec.{ltb}
 use lib.ListN.{length, take}
 use lib.Seq.{length-take-le}
-use Rattle.spec.specs.Code.{Code, code, frozen, payloadSize, clear, gathered, broken}
+use Rattle.spec.specs.Code.{Code, code, frozen, payloadSize, clear, gathered, brokenFrom, broken}
 use Rattle.spec.specs.Faults.{Fault}
 use Rattle.spec.specs.Outcome.{padded, written}
+use Rattle.laws.specs.Accepted.{Ruled}
 use Rattle.laws.specs.FirstFault.{none, here, later, is-first}
 use Rattle.laws.specs.MapBits.{flagsOf, enough-bits}
 use Rattle.extractor.specs.ExtractCall.{inputFaults, payload-refused, payload-served}
@@ -21,13 +22,13 @@ use Rattle.extractor.proofs.write_payload.Statement.{statement}
 use Rattle.extractor.proofs.write_payload.Tie as tie
 
 abbrev given : tie.Start → Code
-given c = code (c .args .m) (c .args .map .now)
+given c = code (c .args .m) (c .args .map .now) (c .args .pairs .now)
 
 abbrev table : tie.Start → List Fault
 table c = inputFaults (given c) (c .args .input .now) (length (c .args .payload .now))
 
 flags : (c : tie.Start) → flagsOf (length (c .args .input .now)) (c .args .map .now) ≡ frozen (given c)
-flags c = flags-are (c .args .m) (length (c .args .input .now)) (c .args .map .now) (c .pre .1)
+flags c = flags-are (c .args .m) (length (c .args .input .now)) (c .args .map .now) (c .args .pairs .now) (c .pre .1)
 
 -- the map has a flag for each position of the input
 enough : (c : tie.Start) → length (c .args .input .now) ≤ 8 * length (c .args .map .now)
@@ -36,27 +37,36 @@ enough c =
     let e : length (c .args .input .now) ≡ 2 ^ c .args .m = c .pre .1 in
     omega arith
 
-frozen-bit-set-requires : tie.Need-frozen-bit-set-requires
-frozen-bit-set-requires c κs = enough (c .before .before .before)
-
-tested : (c : tie.After-frozen-bit-set) → broken (frozen (given (c .before .before .before .before))) (c .before .before .before .before .args .input .now) ≡ c .frozen-bit-set .result
-tested c =
+breaks-rule-requires : tie.Need-breaks-rule-requires
+breaks-rule-requires c κs =
     let s = c .before .before .before .before in
-    sym (c .frozen-bit-set .ensures ∙ ap (λ (fs : List ℕ). broken fs (s .args .input .now)) (flags s))
+    (enough s, subst (λ (fs : List ℕ). Ruled fs (s .args .pairs .now)) (sym (flags s)) (s .pre .0 .ruled))
+
+abbrev called : tie.After-breaks-rule → tie.Start
+called c = c .before .before .before .before .before
+
+tested : (c : tie.After-breaks-rule) → broken (given (called c)) (called c .args .input .now) ≡ c .breaks-rule .result
+unfolding broken
+tested c =
+    let s = called c in
+    sym (c .breaks-rule .ensures (s .args .m) ∙ ap (brokenFrom (given s) (s .args .input .now) 0) (flags s))
 
 payload-size-requires : tie.Need-payload-size-requires
-payload-size-requires c κs = search needs
+payload-size-requires c κs = let a = called c .pre .0 in (a .high, a .bytes, a .ends)
 
 abbrev start : tie.After-payload-size → tie.Start
-start c = c .before .before .before .before .before
+start c = called (c .before)
 
 -- the two tests, over the code
-outside-test : (c : tie.After-payload-size) → broken (frozen (given (start c))) (start c .args .input .now) ≡ c .before .frozen-bit-set .result
+outside-test : (c : tie.After-payload-size) → broken (given (start c)) (start c .args .input .now) ≡ c .before .breaks-rule .result
 outside-test c = tested (c .before)
+
+sized : (c : tie.After-payload-size) → c .payload-size .result ≡ payloadSize (given (start c))
+sized c = c .payload-size .ensures (start c .args .pairs .now)
 
 short-test : (c : tie.After-payload-size)
     → ltb (length (start c .args .payload .now)) (payloadSize (given (start c))) ≡ ltb (length (start c .args .payload .now)) (c .payload-size .result)
-short-test c = ap (ltb (length (start c .args .payload .now))) (sym (c .payload-size .ensures))
+short-test c = ap (ltb (length (start c .args .payload .now))) (sym (sized c))
 
 returns : tie.Need-returns
 returns c =
@@ -90,7 +100,7 @@ gather-payload-requires : tie.Need-gather-payload-requires
 gather-payload-requires c κs =
     let l = c .before in
     let s = start (l .before .before) in
-    (enough s, ap clear (flags s) ∙ sym (part l ∙ l .before .before .payload-size .ensures))
+    (enough s, ap clear (flags s) ∙ sym (part l ∙ sized (l .before .before)))
 
 fill-bytes-requires : tie.Need-fill-bytes-requires
 fill-bytes-requires c κs = search needs
@@ -117,7 +127,7 @@ pub write-payload-spec : {M : Type 1} → statement M
 write-payload-spec =
     tie.close
     (tie.spec
-    frozen-bit-set-requires
+    breaks-rule-requires
     payload-size-requires
     returns
     returns-2

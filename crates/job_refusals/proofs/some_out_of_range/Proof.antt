@@ -1,6 +1,6 @@
--- `job_refusals::some_out_of_range` meets its contract: the values that are left decide. Assumes nothing.
+-- `job_refusals::some_out_of_range` meets its contract: what was found so far, or the values that are left, decide. Assumes nothing.
 use mathlib.Core.Path.{_≡_, sym, ap, ap₂, _∙_}
-use mathlib.Core.Bool.{Bool, true, false, _||_}
+use mathlib.Core.Bool.{Bool, _||_, or-assoc, or-false}
 use mathlib.Core.List.{List}
 use Prim.Native.Nat.{ℕ, suc, _+_, _-_, _*_, _≤_, _<_}
 use native.Mathlib.Omega.{arith}
@@ -22,30 +22,22 @@ ahead s at n i h =
     let f : at + 2 * (i + 1) ≡ at + 2 * i + 2 = omega arith in
     rw (e, f)
 
+-- one value more: with what was found before, what is behind it decides
+turn : (s : List ℕ) (at n i : ℕ) (found v r : Bool) → i < n → v ≡ outOfRange (signed16 (twoAt s (at + 2 * i))) → r ≡ (found || v)
+    → (found || some outOfRange (softFrom s (at + 2 * i) (n - i))) ≡ (r || some outOfRange (softFrom s (at + 2 * (i + 1)) (n - (i + 1))))
+turn s at n i found v r h e q =
+    let rest : Bool = some outOfRange (softFrom s (at + 2 * (i + 1)) (n - (i + 1))) in
+    ap (λ (b : Bool). found || b) (ahead s at n i h ∙ ap (λ (b : Bool). b || rest) (sym e))
+    ∙ sym (or-assoc found v rest) ∙ ap (λ (b : Bool). b || rest) (sym q)
+
 abbrev Inv-loop : tie.InvT-loop
-Inv-loop bytes at n i₀ i = (i ≤ n) × (some outOfRange (softFrom bytes at n) ≡ some outOfRange (softFrom bytes (at + 2 * i) (n - i)))
+Inv-loop bytes at n outside₀ i₀ outside i = (i ≤ n) × (some outOfRange (softFrom bytes at n) ≡ (outside || some outOfRange (softFrom bytes (at + 2 * i) (n - i))))
 
 abbrev μ-loop : tie.MeasureT-loop
-μ-loop bytes at n i₀ i = n - i
+μ-loop bytes at n outside₀ i₀ outside i = n - i
 
 abbrev start : tie.At-loop Inv-loop μ-loop → tie.Start Inv-loop μ-loop
 start c = c .before .before
-
--- one value more: it is out of range, or what is behind it decides
-turn : (c : tie.After-out-of-range Inv-loop μ-loop) (b : Bool) → c .out-of-range .result ≡ b
-    → let l = c .before .before .before in
-    let a = start l .args in
-    some outOfRange (softFrom (a .bytes .now) (a .at) (a .n))
-    ≡ (b || some outOfRange (softFrom (a .bytes .now) (a .at + 2 * (l .loop .i + 1)) (a .n - (l .loop .i + 1))))
-turn c b e =
-    let l = c .before .before .before in
-    let a = start l .args in
-    let i = l .loop .i in
-    let v = c .before .soft-value in
-    let value = toZ-ofZ w16 (v .result) (record { sfits = v .ok }) ∙ v .ensures in
-    let tested : outOfRange (signed16 (twoAt (a .bytes .now) (a .at + 2 * i))) ≡ b = sym (c .out-of-range .ensures ∙ ap outOfRange value) ∙ e in
-    l .loop .inv .1 ∙ ahead (a .bytes .now) (a .at) (a .n) i (c .before .before .loop-test .taken)
-    ∙ ap (λ (b : Bool). b || some outOfRange (softFrom (a .bytes .now) (a .at + 2 * (i + 1)) (a .n - (i + 1)))) tested
 
 loop-holds : tie.Need-loop-holds Inv-loop μ-loop
 loop-holds c =
@@ -66,8 +58,8 @@ soft-value-requires c κs = search needs
 out-of-range-requires : tie.Need-out-of-range-requires Inv-loop μ-loop
 out-of-range-requires c κs = search needs
 
-returns : tie.Need-returns Inv-loop μ-loop
-returns c = sym (turn (c .before) true (c .if1 .taken))
+either-requires : tie.Need-either-requires Inv-loop μ-loop
+either-requires c κs = search needs
 
 add-i : tie.Need-add-i Inv-loop μ-loop
 add-i c = search needs
@@ -76,15 +68,26 @@ loop-less : tie.Need-loop-less Inv-loop μ-loop
 loop-less c = search needs
 
 loop-again : tie.Need-loop-again Inv-loop μ-loop
-loop-again c = (omega arith, turn (c .before) false (c .if1 .left))
+loop-again c =
+    let o = c .before in
+    let t = o .before .before in
+    let l = t .before in
+    let a = start l .args in
+    let v = o .before .soft-value in
+    let value = toZ-ofZ w16 (v .result) (record { sfits = v .ok }) ∙ v .ensures in (
+      omega arith,
+      l .loop .inv .1
+          ∙ turn (a .bytes .now) (a .at) (a .n) (l .loop .i) (l .loop .outside) (o .out-of-range .result) (c .either .result) (t .loop-test .taken)
+          (o .out-of-range .ensures ∙ ap outOfRange value) (c .either .ensures),
+    )
 
-returns-2 : tie.Need-returns-2 Inv-loop μ-loop
+returns : tie.Need-returns Inv-loop μ-loop
 unfolding softFrom some
-returns-2 c =
+returns c =
     let l = c .before in
     let a = start l .args in
     let e : a .n - l .loop .i ≡ 0 = omega (arith, c .loop-test .left) in
-    sym (l .loop .inv .1 ∙ ap (λ (k : ℕ). some outOfRange (softFrom (a .bytes .now) (a .at + 2 * l .loop .i) k)) e)
+    sym (l .loop .inv .1 ∙ ap (λ (k : ℕ). l .loop .outside || some outOfRange (softFrom (a .bytes .now) (a .at + 2 * l .loop .i) k)) e ∙ or-false (l .loop .outside))
 
 pub some-out-of-range-spec : {M : Type 1} → statement M
 some-out-of-range-spec =
@@ -97,8 +100,8 @@ some-out-of-range-spec =
     add-soft-value
     soft-value-requires
     out-of-range-requires
-    returns
+    either-requires
     add-i
     loop-less
     loop-again
-    returns-2)
+    returns)

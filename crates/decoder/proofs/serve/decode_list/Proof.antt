@@ -23,13 +23,13 @@ fill-bytes-requires c κs = search needs
 
 start-requires : tie.Need-start-requires
 start-requires c κs =
-    let s = c .before .before .before .before .before .before .before .before in
-    start-fits (s .args .m) (s .args .l) (s .args .p) (s .args .n) (s .args .h) (s .args .map .now) (s .args .soft .now) _ (s .pre) (s .args .t .now) (omega arith)
+    let s = c .before .before .before .before .before .before .before .before .before .before in
+    start-fits (s .args .m) (s .args .l) (s .args .p) (s .args .n) (s .args .h) (s .args .map .now) (s .args .pairs .now) (s .args .soft .now) _ (s .pre) (s .args .t .now) (omega arith)
 
 positions-requires : tie.Need-positions-requires
 positions-requires c κs =
-    let s = c .before .before .before .before .before .before .before .before .before .before .before .before .before in
-    run-fits (s .args .m) (s .args .l) (s .args .p) (s .args .n) (s .args .h) (s .args .map .now) (s .args .soft .now) _ (s .pre) _ _ (omega (arith, c .before .before .before .before .start .kept .0)) (omega (arith, c .before .before .before .before .before .before .before .before .fill-bytes .kept .0))
+    let s = c .before .before .before .before .before .before .before .before .before .before .before .before .before .before .before .before in
+    run-fits (s .args .m) (s .args .l) (s .args .p) (s .args .n) (s .args .h) (s .args .map .now) (s .args .pairs .now) (s .args .soft .now) _ (s .pre) _ _ _ (omega (arith, c .before .before .before .before .before .start .kept .0)) (omega (arith, c .before .before .before .before .before .before .before .before .before .fill-bytes .kept .0)) (omega arith)
 
 same-length : tie.Need-same-length
 same-length c = search needs
@@ -37,16 +37,19 @@ same-length c = search needs
 same-length-2 : tie.Need-same-length-2
 same-length-2 c = search needs
 
+same-length-3 : tie.Need-same-length-3
+same-length-3 c = search needs
+
 returns : tie.Need-returns
 returns c =
-    let s = c .before .before .before .before .before .before .before .before .before .before .before .before .before .before .before .before .before .before in
-    let z = c .before .before .before .before .before .before .before .before .before .before .before .before .before .fill-bytes in
-    let a = c .before .before .before .before .before .before .before .before .before .start .ensures .0 in
-    let q = c .before .before .before .before .positions .ensures in
+    let s = c .before .before .before .before .before .before .before .before .before .before .before .before .before .before .before .before .before .before .before .before .before .before .before in
+    let z = c .before .before .before .before .before .before .before .before .before .before .before .before .before .before .before .before .fill-bytes in
+    let a = c .before .before .before .before .before .before .before .before .before .before .before .before .start .ensures .0 in
+    let q = c .before .before .before .before .before .before .positions .ensures in
     record {
       few = q .few;
-      ran = q .ran (code (s .args .m) (s .args .map .now)) (taken (s .args .soft .now)) refl
-          (record { exponent = exponent (s .args .m) (s .args .l) (s .args .p) (s .args .n) (s .args .h) (s .args .map .now) (s .args .soft .now) _ (s .pre); soft = length-taken (s .args .soft .now) ∙ s .pre .long ∙ whole (s .args .m) (s .args .l) (s .args .p) (s .args .n) (s .args .h) (s .args .map .now) (s .args .soft .now) _ (s .pre); small = a .small }) a
+      ran = q .ran (code (s .args .m) (s .args .map .now) (s .args .pairs .now)) (taken (s .args .soft .now)) refl refl
+          (record { exponent = exponent (s .args .m) (s .args .l) (s .args .p) (s .args .n) (s .args .h) (s .args .map .now) (s .args .pairs .now) (s .args .soft .now) _ (s .pre); soft = length-taken (s .args .soft .now) ∙ s .pre .long ∙ whole (s .args .m) (s .args .l) (s .args .p) (s .args .n) (s .args .h) (s .args .map .now) (s .args .pairs .now) (s .args .soft .now) _ (s .pre); small = a .small }) a
           (λ j. ap (λ (b : List ℕ). getD b j 0) (z .ensures ∙ zeroed (s .args .b .now)) ∙ zeros-at (length (s .args .b .now)) j);
     }
 
@@ -61,4 +64,5 @@ decode-list-spec =
     positions-requires
     same-length
     same-length-2
+    same-length-3
     returns)

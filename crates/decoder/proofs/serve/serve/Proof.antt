@@ -1,12 +1,13 @@
-use mathlib.Core.Path.{ap, _∙_}
+use mathlib.Core.Path.{ap, subst, _∙_}
 use Prim.Native.Nat.{ℕ}
 use native.Mathlib.Omega.{arith}
 use borrow.Author.Needs.{needs}
-use lib.ListN.{replicate}
+use lib.ListN.{length, replicate}
 use lib.IntN.{ℤ}
 use mir.Syntax.{w32}
 use mir.ValLaws.{toZ-ofZ}
 use Rattle.spec.specs.Outcome.{decoding, decoded, lent}
+use Rattle.block_rows.specs.BlockRows.{BitsWritten}
 use Rattle.decoder.proofs.Serving.{bits-fit}
 use Rattle.decoder.proofs.Outputs.{enough, costs-fit, served}
 use Rattle.decoder.proofs.serve.serve.Statement.{statement}
@@ -14,26 +15,26 @@ use Rattle.decoder.proofs.serve.serve.Tie as tie
 
 decode-list-requires : tie.Need-decode-list-requires
 decode-list-requires c κs =
-    let s = c .before .before .before .before .before .before .before in
-    enough (s .args .m) (s .args .l) (s .args .p) (s .args .n) (s .args .h) (s .args .map .now) (s .args .soft .now) _ (s .pre)
+    let s = c .before .before .before .before .before .before .before .before .before in
+    enough (s .args .m) (s .args .l) (s .args .p) (s .args .n) (s .args .h) (s .args .map .now) (s .args .pairs .now) (s .args .soft .now) _ (s .pre)
 
 write-bits-requires : tie.Need-write-bits-requires
 write-bits-requires c κs =
-    let s = c .before .before .before .before .before .before .before .before .before .before .before .before .before .before .before in
-    let d = c .before .before .before .before .before .before .before .decode-list in
-    bits-fit (s .args .m) (s .args .l) (s .args .p) (s .args .n) (s .args .h) (s .args .map .now) (s .args .soft .now) _ (s .pre) (d .result .count) _ (d .ensures .few) (omega (arith, d .kept .1 .1 .1 .1 .1 .1 .0))
+    let s = c .before .before .before .before .before .before .before .before .before .before .before .before .before .before .before .before .before .before .before in
+    let d = c .before .before .before .before .before .before .before .before .before .decode-list in
+    rw (d .kept .1 .1 .1 .1 .1 .1 .1 .1 .0) (bits-fit (s .args .m) (s .args .l) (s .args .p) (s .args .n) (s .args .h) (s .args .map .now) (s .args .pairs .now) (s .args .soft .now) _ (s .pre) (d .result .count) _ (d .ensures .few) (omega (arith, d .kept .1 .1 .1 .1 .1 .1 .1 .0)))
 
 write-costs-requires : tie.Need-write-costs-requires
 write-costs-requires c κs =
-    let s = c .before .before .before .before .before .before .before .before .before .before .before .before .before .before .before .before .before .before .before .before .before in
-    let d = c .before .before .before .before .before .before .before .before .before .before .before .before .before .decode-list in
-    costs-fit (s .args .m) (s .args .l) (s .args .p) (s .args .n) (s .args .h) (s .args .map .now) (s .args .soft .now) _ (s .pre) (d .result) (d .last .1 .1 .1 .1 .1 .0) (d .last .1 .1 .1 .1 .1 .1 .0) (d .ensures)
+    let s = c .before .before .before .before .before .before .before .before .before .before .before .before .before .before .before .before .before .before .before .before .before .before .before .before .before in
+    let d = c .before .before .before .before .before .before .before .before .before .before .before .before .before .before .before .decode-list in
+    costs-fit (s .args .m) (s .args .l) (s .args .p) (s .args .n) (s .args .h) (s .args .map .now) (s .args .pairs .now) (s .args .soft .now) _ (s .pre) (d .result) (d .last .1 .1 .1 .1 .1 .1 .0) (d .last .1 .1 .1 .1 .1 .1 .1 .0) (d .ensures)
 
 clear-tables-requires : tie.Need-clear-tables-requires
 clear-tables-requires c κs = search needs
 
-cast-t33 : tie.Need-cast-t33
-cast-t33 c = omega (arith, c .before .before .before .before .before .before .before .before .before .before .before .before .before .before .before .before .before .before .before .before .before .before .decode-list .ensures .few, c .before .before .before .before .before .before .before .before .before .before .before .before .before .before .before .before .before .before .before .before .before .before .before .before .before .before .before .before .before .before .pre .list)
+cast-t36 : tie.Need-cast-t36
+cast-t36 c = omega (arith, c .before .before .before .before .before .before .before .before .before .before .before .before .before .before .before .before .before .before .before .before .before .before .before .before .decode-list .ensures .few, c .before .before .before .before .before .before .before .before .before .before .before .before .before .before .before .before .before .before .before .before .before .before .before .before .before .before .before .before .before .before .before .before .before .before .pre .list)
 
 same-length : tie.Need-same-length
 same-length c = search needs
@@ -52,14 +53,15 @@ same-length-5 c = search needs
 
 returns : tie.Need-returns
 returns c =
-    let s = c .before .before .before .before .before .before .before .before .before .before .before .before .before .before .before .before .before .before .before .before .before .before .before .before .before .before .before .before .before .before in
-    let d = c .before .before .before .before .before .before .before .before .before .before .before .before .before .before .before .before .before .before .before .before .before .before .decode-list in
+    let s = c .before .before .before .before .before .before .before .before .before .before .before .before .before .before .before .before .before .before .before .before .before .before .before .before .before .before .before .before .before .before .before .before .before .before in
+    let d = c .before .before .before .before .before .before .before .before .before .before .before .before .before .before .before .before .before .before .before .before .before .before .before .before .decode-list in
     let w = c .before .before .before .before .before .before .before .before .before .before .before .before .before .before .write-bits in
     let k = c .before .before .before .before .before .before .before .before .write-costs in
     let z = c .before .before .before .before .clear-tables in
+    let bits = subst (λ (x : ℕ). BitsWritten (s .args .m) (s .args .l) (s .args .p) (s .args .n) (s .args .h) (d .result .count) x (length (s .args .words .now)) (d .last .1 .1 .1 .1 .1 .1 .1 .0) (w .last .0) (w .last .1 .0)) (d .kept .1 .1 .1 .1 .1 .1 .1 .1 .0) (w .ensures) in
     ap (λ (top : ℤ). decoding (decoded (d .result .count) top) (lent (z .last .0) (z .last .1 .0) (w .last .0) (w .last .1 .0) (k .last .0))) (toZ-ofZ w32 (k .result) (record { sfits = k .ok }))
-    ∙ served (s .args .m) (s .args .l) (s .args .p) (s .args .n) (s .args .h) (s .args .map .now) (s .args .soft .now) _ (s .pre) (d .result) (d .last .1 .1 .1 .1 .1 .0) (d .last .1 .1 .1 .1 .1 .1 .0) (d .ensures) (w .last .0) (w .last .1 .0) (k .result) (k .last .0) (w .ensures) (k .ensures) (z .last .0) (z .last .1 .0)
-    (z .ensures .0 ∙ ap (λ (j : ℕ). replicate j 0) (d .kept .1 .1 .1 .1 .1 .0)) (z .ensures .1 ∙ ap (λ (j : ℕ). replicate j 0) (d .kept .1 .1 .1 .1 .1 .1 .0))
+    ∙ served (s .args .m) (s .args .l) (s .args .p) (s .args .n) (s .args .h) (s .args .map .now) (s .args .pairs .now) (s .args .soft .now) _ (s .pre) (d .result) (d .last .1 .1 .1 .1 .1 .1 .0) (d .last .1 .1 .1 .1 .1 .1 .1 .0) (d .ensures) (w .last .0) (w .last .1 .0) (k .result) (k .last .0) bits (k .ensures) (z .last .0) (z .last .1 .0)
+    (z .ensures .0 ∙ ap (λ (j : ℕ). replicate j 0) (d .kept .1 .1 .1 .1 .1 .1 .0)) (z .ensures .1 ∙ ap (λ (j : ℕ). replicate j 0) (d .kept .1 .1 .1 .1 .1 .1 .1 .0))
 
 pub serve-spec : {M : Type 1} → statement M
 serve-spec =
@@ -69,7 +71,7 @@ serve-spec =
     write-bits-requires
     write-costs-requires
     clear-tables-requires
-    cast-t33
+    cast-t36
     same-length
     same-length-2
     same-length-3

@@ -18,11 +18,14 @@ same-length c = search needs
 same-length-2 : tie.Need-same-length-2
 same-length-2 c = search needs
 
+same-length-3 : tie.Need-same-length-3
+same-length-3 c = search needs
+
 returns : tie.Need-returns
 returns c =
-    let r = c .before .before .before .before .read-job in
-    ap (λ (a : JobFields). hostReading a (r .last .1 .0) (r .last .1 .1 .0)) (c .fields-for-host .ensures) ∙ ap forHost (r .ensures)
+    let r = c .before .before .before .before .before .before .read-job in
+    ap (λ (a : JobFields). hostReading a (r .last .1 .0) (r .last .1 .1 .0) (r .last .1 .1 .1 .0)) (c .fields-for-host .ensures) ∙ ap forHost (r .ensures)
 
 pub read-job-fields-spec : {M : Type 1} → statement M
 read-job-fields-spec =
-    tie.close (tie.spec read-job-requires fields-for-host-requires same-length same-length-2 returns)
+    tie.close (tie.spec read-job-requires fields-for-host-requires same-length same-length-2 same-length-3 returns)

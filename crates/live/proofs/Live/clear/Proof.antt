@@ -5,7 +5,7 @@ use mathlib.Core.Path.{ap₂, _∙_}
 use mathlib.Core.List.{List}
 use Prim.Native.Nat.{ℕ, _+_}
 use native.Mathlib.Omega.{arith}
-use lib.ListN.{take, drop}
+use lib.ListN.{take, drop, replicate}
 use borrow.Author.Needs.{needs}
 use lib.Dec.{leb}
 use lib.Seq.{take-take}
@@ -28,9 +28,9 @@ returns : tie.Need-returns
 returns c =
     let s = c .before .before .args in
     let sp = c .before .split .ensures in
-    let ks = childrenOf 0 (entries (s .self)) (s .zeros .now) (s .ones .now) (s .self .count) in
+    let ks = childrenOf 0 (entries (s .self)) (replicate 32 0) (s .zeros .now) (s .ones .now) (s .self .count) in
     let h : Holds (c .cut .result) (s .l) (take (s .l) (sortBy leb ks)) = rw (sp .holds .are, take-take (s .l) (s .l + 1) (sortBy leb ks) (omega arith)) at (c .cut .ensures .holds) in
-    position 0 (s .l) (s .zeros .now) (s .ones .now) (s .self) (c .cut .result) (search needs) (omega arith) h
+    position 0 (s .l) (replicate 32 0) (s .zeros .now) (s .ones .now) (s .self) (c .cut .result) (search needs) (omega arith) h
     (c .cut .ensures .lost
     ∙ ap₂ (λ (a : ℕ) (ys : List ℕ). lostWith a (drop (s .l) ys)) (sp .lost) (sp .holds .are)
     ∙ one-more (s .l) (s .self .lost) (rising-sort ks))

@@ -16,10 +16,10 @@ use Rattle.live.proofs.Live.extend.Statement.{statement}
 use Rattle.live.proofs.Live.extend.Tie as tie
 
 abbrev Inv-loop : tie.InvT-loop
-Inv-loop frozen zeros ones l n lost code anew out₀ m₀ i₀ out m i = (i ≤ n) × Filled out m l (take l (sortBy leb (childrenOf frozen (take n code) zeros ones i)))
+Inv-loop frozen bits firsts ones l n lost code anew out₀ m₀ i₀ out m i = (i ≤ n) × Filled out m l (take l (sortBy leb (childrenOf frozen (take n code) bits firsts ones i)))
 
 abbrev μ-loop : tie.MeasureT-loop
-μ-loop frozen zeros ones l n lost code anew out₀ m₀ i₀ out m i = n - i
+μ-loop frozen bits firsts ones l n lost code anew out₀ m₀ i₀ out m i = n - i
 
 is-crowded-requires : tie.Need-is-crowded-requires Inv-loop μ-loop
 is-crowded-requires c κs = search needs
@@ -30,26 +30,29 @@ loop-holds c = (omega arith, record { long = refl; few = omega arith; are = sym 
 lex-requires : tie.Need-lex-requires Inv-loop μ-loop
 lex-requires c κs = search needs
 
+element-copy-out-child-place : tie.Need-element-copy-out-child-place Inv-loop μ-loop
+element-copy-out-child-place c = omega arith
+
+child-place-requires : tie.Need-child-place-requires Inv-loop μ-loop
+child-place-requires c κs = omega arith
+
 mul-entry : tie.Need-mul-entry Inv-loop μ-loop
 mul-entry c = omega arith
 
 element-copy-out-entry : tie.Need-element-copy-out-entry Inv-loop μ-loop
 element-copy-out-entry c = omega arith
 
-mul-entry-2 : tie.Need-mul-entry-2 Inv-loop μ-loop
-mul-entry-2 c = omega arith
-
 entry-requires : tie.Need-entry-requires Inv-loop μ-loop
 entry-requires c κs = omega arith
 
-mul-entry-3 : tie.Need-mul-entry-3 Inv-loop μ-loop
-mul-entry-3 c = omega arith
+mul-entry-2 : tie.Need-mul-entry-2 Inv-loop μ-loop
+mul-entry-2 c = omega arith
 
 element-copy-out-entry-2 : tie.Need-element-copy-out-entry-2 Inv-loop μ-loop
 element-copy-out-entry-2 c = omega arith
 
-mul-entry-4 : tie.Need-mul-entry-4 Inv-loop μ-loop
-mul-entry-4 c = omega arith
+mul-entry-3 : tie.Need-mul-entry-3 Inv-loop μ-loop
+mul-entry-3 c = omega arith
 
 add-entry : tie.Need-add-entry Inv-loop μ-loop
 add-entry c = omega arith
@@ -70,7 +73,8 @@ loop-again : tie.Need-loop-again Inv-loop μ-loop
 loop-again c =
     let e2 = c .before .before in
     let e1 = e2 .before .before in
-    let x = e1 .before .before in
+    let o = e1 .before .before in
+    let x = o .before .before in
     let t = x .before .before in
     let l = t .before in
     let s = l .before .before .before .before .args in
@@ -81,9 +85,9 @@ loop-again c =
         long = p .long;
         few = p .few;
         are =
-            children-turn (s .frozen) (s .l) (s .self .count) (l .loop .i) (x .lex .result) (e1 .entry .result) (e2 .entry2 .result)
-            (s .self .code) (s .zeros .now) (s .ones .now) _ _
-            m (l .loop .inv .1 .are) (x .lex .ensures .1) (e1 .entry .ensures) (e2 .entry2 .ensures) (p .are);
+            children-turn (s .frozen) (s .l) (s .self .count) (l .loop .i) (x .lex .result) (o .child-place .result) (e1 .entry .result) (e2 .entry2 .result)
+            (s .self .code) (s .bits .now) (s .firsts .now) (s .ones .now) _ _
+            m (l .loop .inv .1 .are) (x .lex .ensures .1) (o .child-place .ensures .0) (e1 .entry .ensures) (e2 .entry2 .ensures) (p .are);
         up = p .up;
       },
     )
@@ -105,13 +109,14 @@ extend-spec =
     is-crowded-requires
     loop-holds
     lex-requires
+    element-copy-out-child-place
+    child-place-requires
     mul-entry
     element-copy-out-entry
-    mul-entry-2
     entry-requires
-    mul-entry-3
+    mul-entry-2
     element-copy-out-entry-2
-    mul-entry-4
+    mul-entry-3
     add-entry
     entry-requires-2
     put-branches-requires

@@ -20,9 +20,9 @@ returns : tie.Need-returns
 returns c =
     let s = c .before .args in
     let e = c .extend .ensures in
-    position 1 (s .l) (s .zeros .now) (s .zeros .now) (s .self) (c .extend .result) (search needs) (omega arith) (e .holds)
+    position 1 (s .l) (s .bits .now) (s .costs .now) (s .costs .now) (s .self) (c .extend .result) (search needs) (omega arith) (e .holds)
     (e .lost
-    ∙ ap (λ (xs : List ℕ). lostWith (s .self .lost) xs) (sym (none-lost 0 (s .l) (entries (s .self)) (s .zeros .now) (s .zeros .now) (s .self .count) (omega arith))))
+    ∙ ap (λ (xs : List ℕ). lostWith (s .self .lost) xs) (sym (none-lost 0 (s .l) (entries (s .self)) (s .bits .now) (s .costs .now) (s .costs .now) (s .self .count) (omega arith))))
 
 pub freeze-spec : {M : Type 1} → statement M
 freeze-spec = tie.close (tie.spec extend-requires returns)

@@ -1,18 +1,27 @@
-use mathlib.Core.Path.{refl, sym}
-use Prim.Native.Nat.{_-_, _*_}
+-- `positions::block::positions` meets its contract: `Looping` holds at each turn. Assumes nothing.
+use mathlib.Core.Path.{_≡_, refl, sym, _∙_}
+use Prim.Native.Nat.{_-_, _*_, _<_}
 use native.Mathlib.Omega.{arith}
 use borrow.Author.Needs.{needs}
-use lib.ListN.{replicate}
+use lib.ListN.{length, replicate}
 use Rattle.positions.specs.Running.{zeros-at}
-use Rattle.positions.proofs.Looping.{Looping, looping-start, next-room, position-fits, looping-more, looping-end}
+use Rattle.positions.proofs.Looping.{Looping, looping-start, next-room, own-fits, position-fits, looping-more, looping-end}
 use Rattle.positions.proofs.block.positions.Statement.{statement}
 use Rattle.positions.proofs.block.positions.Tie as tie
 
 abbrev Inv-loop : tie.InvT-loop
-Inv-loop t₀ b₀ map p deep l h n slots₀ s₀ at₀ i₀ t b slots s at i = Looping deep l h p i at map t₀ b₀ t b slots s
+Inv-loop t₀ b₀ rows₀ map pairs p deep l h n slots₀ s₀ at₀ from₀ seen₀ i₀ t b rows slots s at from seen i =
+    (length rows ≡ length rows₀) × Looping deep l h n p i at from seen (length rows) map pairs t₀ b₀ t b slots s
 
 abbrev μ-loop : tie.MeasureT-loop
-μ-loop t₀ b₀ map p deep l h n slots₀ s₀ at₀ i₀ t b slots s at i = p - i
+μ-loop t₀ b₀ rows₀ map pairs p deep l h n slots₀ s₀ at₀ from₀ seen₀ i₀ t b rows slots s at from seen i = p - i
+
+-- ---- the start of the function, and the turn, from the first call in the loop
+abbrev start : tie.After-run-end Inv-loop μ-loop → tie.Start Inv-loop μ-loop
+start c = c .before .before .before .before .before .before .before .before .before
+
+inside : (c : tie.After-run-end Inv-loop μ-loop) → c .before .before .loop .i < start c .args .p
+inside c = c .before .loop-test .taken
 
 start-requires : tie.Need-start-requires Inv-loop μ-loop
 start-requires c κs = search needs
@@ -22,48 +31,99 @@ mul-at c = search needs
 
 loop-holds : tie.Need-loop-holds Inv-loop μ-loop
 loop-holds c =
-    let s = c .before .before .before .before in
-    looping-start (s .args .deep) (s .args .l) (s .args .h) (s .args .n) (s .args .p) (s .args .map .now) (s .args .t .now) (s .args .b .now) (s .pre) (3 * s .args .h) (replicate 1024 0) (c .start .result) refl refl (zeros-at 1024) (c .start .ensures .0) (c .start .ensures .1) (c .start .ensures .2)
+    let s = c .before .before .before .before .before .before in
+    let a = s .args in (
+      refl,
+      looping-start (a .deep) (a .l) (a .h) (a .n) (a .p) (length (a .rows .now)) (a .map .now) (a .pairs .now) (a .t .now) (a .b .now) (s .pre) (3 * a .h) (length (a .rows .now)) (replicate 1024 0) (c .start .result)
+          refl refl refl (zeros-at 1024) (c .start .ensures .0) (c .start .ensures .1) (c .start .ensures .2),
+    )
+
+run-end-requires : tie.Need-run-end-requires Inv-loop μ-loop
+run-end-requires c κs = c .before .loop .inv .1 .part
+
+own-bits-requires : tie.Need-own-bits-requires Inv-loop μ-loop
+own-bits-requires c κs =
+    let e = c .before .before .before in
+    let s = start e in
+    let a = s .args in
+    let k = e .before .before .loop in (
+      own-fits (a .deep) (a .l) (a .h) (a .n) (a .p) (length (a .rows .now)) (a .map .now) (a .pairs .now) (a .t .now) (a .b .now) (s .pre)
+          (k .i) (k .at) (k .from) (k .seen) (length (k .rows)) (k .t) (k .b) (k .slots) (k .s) (k .inv .1) (inside e),
+      e .run-end .ensures .0,
+      k .inv .1 .standing .few,
+      refl,
+    )
 
 slice-aggregate-position : tie.Need-slice-aggregate-position Inv-loop μ-loop
-slice-aggregate-position c = sym (c .before .before .before .before .loop .inv .numbers)
+slice-aggregate-position c = sym (c .before .before .before .before .before .before .before .before .before .before .before .before .before .loop .inv .1 .numbers)
 
 position-requires : tie.Need-position-requires Inv-loop μ-loop
 position-requires c κs =
-    let s = c .before .before .before .before .before .before .before .before .before in
-    let k = c .before .before .before .before in
-    (position-fits (s .args .deep) (s .args .l) (s .args .h) (s .args .n) (s .args .p) (s .args .map .now) (s .args .t .now) (s .args .b .now) (s .pre) (k .loop .i) (k .loop .at) (k .loop .t) (k .loop .b) (k .loop .slots) (k .loop .s) (k .loop .inv) (omega (arith, c .before .before .before .loop-test .taken)), k .loop .inv .standing)
+    let o = c .before .before .before .before .before .before .before .before in
+    let e = o .before .before .before .before in
+    let s = start e in
+    let a = s .args in
+    let k = e .before .before .loop in (
+      position-fits (a .deep) (a .l) (a .h) (a .n) (a .p) (length (a .rows .now)) (a .map .now) (a .pairs .now) (a .t .now) (a .b .now) (s .pre)
+          (k .i) (k .at) (k .from) (k .seen) (length (k .rows)) (k .t) (k .b) (k .slots) (k .s) (k .inv .1) (inside e) _ (o .own-bits .kept .0),
+      k .inv .1 .standing,
+    )
 
 add-at : tie.Need-add-at Inv-loop μ-loop
 add-at c =
-    let s = c .before .before .before .before .before .before .before .before .before .before .before .before .before .before .before in
-    let k = c .before .before .before .before .before .before .before .before .before .before in
-    omega (arith, next-room (s .args .deep) (s .args .l) (s .args .h) (s .args .n) (s .args .p) (s .args .map .now) (s .args .t .now) (s .args .b .now) (s .pre) (k .loop .i) (k .loop .at) (k .loop .t) (k .loop .b) (k .loop .slots) (k .loop .s) (k .loop .inv) (omega (arith, c .before .before .before .before .before .before .before .before .before .loop-test .taken)))
+    let e = c .before .before .before .before .before .before .before .before .before .before .before .before .before .before .before .before .before .before in
+    let s = start e in
+    let a = s .args in
+    let k = e .before .before .loop in
+    omega (
+      arith,
+      next-room (a .deep) (a .l) (a .h) (a .n) (a .p) (length (a .rows .now)) (a .map .now) (a .pairs .now) (a .t .now) (a .b .now) (s .pre)
+          (k .i) (k .at) (k .from) (k .seen) (length (k .rows)) (k .t) (k .b) (k .slots) (k .s) (k .inv .1) (inside e),
+    )
 
 add-i : tie.Need-add-i Inv-loop μ-loop
-add-i c = search needs
+add-i c =
+    let e = c .before .before .before .before .before .before .before .before .before .before .before .before .before .before .before .before .before .before in
+    omega (arith, inside e)
 
 loop-less : tie.Need-loop-less Inv-loop μ-loop
-loop-less c = search needs
+loop-less c =
+    let e = c .before .before .before .before .before .before .before .before .before .before .before .before .before .before .before .before .before .before in
+    omega (arith, inside e)
 
 loop-again : tie.Need-loop-again Inv-loop μ-loop
 loop-again c =
-    let s = c .before .before .before .before .before .before .before .before .before .before .before .before .before .before .before in
-    let k = c .before .before .before .before .before .before .before .before .before .before in
-    let q = c .before .before .before .before .before .position in
-    looping-more (s .args .deep) (s .args .l) (s .args .h) (s .args .n) (s .args .p) (s .args .map .now) (s .args .t .now) (s .args .b .now) (s .pre) (k .loop .i) (k .loop .at) (k .loop .t) (k .loop .b) (k .loop .slots) (k .loop .s) (k .loop .inv) (omega (arith, c .before .before .before .before .before .before .before .before .before .loop-test .taken)) (q .last .0) (q .last .1 .0) (q .last .1 .1 .0) (q .result) (q .kept .0) (q .kept .1 .0) (q .kept .1 .1 .0) (q .ensures .0) (q .ensures .1)
+    let q = c .before .before .before .before .before in
+    let o = q .before .before .before .before .before .before .before .before .before in
+    let e = o .before .before .before .before in
+    let s = start e in
+    let a = s .args in
+    let k = e .before .before .loop in
+    let w = o .own-bits in
+    let m = q .position in (
+      w .kept .1 .0 ∙ k .inv .0,
+      looping-more (a .deep) (a .l) (a .h) (a .n) (a .p) (length (a .rows .now)) (a .map .now) (a .pairs .now) (a .t .now) (a .b .now) (s .pre)
+          (k .i) (k .at) (k .from) (k .seen) (length (k .rows)) (k .t) (k .b) (k .slots) (k .s) (k .inv .1) (inside e)
+          (e .run-end .result) (e .run-end .ensures .0) (e .run-end .ensures .1) (w .result) (w .last .0) _ (w .kept .0) (w .ensures)
+          (m .last .0) (m .last .1 .0) (m .last .1 .1 .0) _ (m .result) (w .kept .1 .0) (m .kept .0) (m .kept .1 .0) (m .kept .1 .1 .0)
+          (m .ensures .0) (m .ensures .1) (m .ensures .2),
+    )
 
 same-length : tie.Need-same-length Inv-loop μ-loop
-same-length c = c .before .loop .inv .words
+same-length c = c .before .loop .inv .1 .words
 
 same-length-2 : tie.Need-same-length-2 Inv-loop μ-loop
-same-length-2 c = c .before .loop .inv .bytes
+same-length-2 c = c .before .loop .inv .1 .bytes
+
+same-length-3 : tie.Need-same-length-3 Inv-loop μ-loop
+same-length-3 c = c .before .loop .inv .0
 
 returns : tie.Need-returns Inv-loop μ-loop
 returns c =
-    let s = c .before .before .before .before .before .before in
     let k = c .before in
-    looping-end (s .args .deep) (s .args .l) (s .args .h) (s .args .p) (k .loop .i) (k .loop .at) (s .args .map .now) (s .args .t .now) (s .args .b .now) (k .loop .t) (k .loop .b) (k .loop .slots) (k .loop .s) (omega (arith, k .loop .inv .near)) (k .loop .inv)
+    let a = k .before .before .before .before .before .before .before .args in
+    looping-end (a .deep) (a .l) (a .h) (a .n) (a .p) (k .loop .i) (k .loop .at) (k .loop .from) (k .loop .seen) (length (k .loop .rows)) (a .map .now) (a .pairs .now) (a .t .now) (a .b .now)
+    (k .loop .t) (k .loop .b) (k .loop .slots) (k .loop .s) (omega (arith, k .loop .inv .1 .near, c .loop-test .left)) (k .loop .inv .1)
 
 pub positions-spec : {M : Type 1} → statement M
 positions-spec =
@@ -74,6 +134,8 @@ positions-spec =
     start-requires
     mul-at
     loop-holds
+    run-end-requires
+    own-bits-requires
     slice-aggregate-position
     position-requires
     add-at
@@ -82,4 +144,5 @@ positions-spec =
     loop-again
     same-length
     same-length-2
+    same-length-3
     returns)

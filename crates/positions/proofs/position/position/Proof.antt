@@ -13,6 +13,7 @@ use Rattle.positions.specs.Position.{Chosen}
 use Rattle.positions.proofs.Fitting.{top-low, bits-long, choose-fits, settle-fits, advance-fits}
 use Rattle.positions.proofs.Stepping.{chosen-step, chosen-lost}
 use Rattle.positions.proofs.Advancing.{running-more}
+use Rattle.positions.proofs.Keeping.{beside}
 use Rattle.positions.proofs.position.position.Statement.{statement}
 use Rattle.positions.proofs.position.position.Tie as tie
 
@@ -50,7 +51,7 @@ advance-requires c κs =
     let s = c .before .before .before .before .before .before .before .before .before .before .before .before .before .before .before .before .before .before in
     let ch = c .before .before .before .before .before .before .before .before .before .before .choose in
     let st = c .before .before .before .before .before .before .before .settle in
-    advance-fits (s .args .deep) (s .args .l) (s .args .h) (s .args .n) (s .args .i) (s .args .at) (s .args .t .now) (s .args .b .now) (s .args .slots .now) (s .args .map .now) (s .pre .0) _ (s .args .s) (ch .result) _ (st .last .0) (st .last .1 .0) (s .pre .1) (ch .ensures .position .holds .few) (ch .ensures) (st .ensures) (st .kept .0)
+    advance-fits (s .args .deep) (s .args .l) (s .args .h) (s .args .n) (s .args .i) (s .args .at) (s .args .t .now) (s .args .b .now) (s .args .slots .now) (s .args .map .now) (s .pre .0) _ (s .args .s) (ch .result) _ (s .args .bits .now) (st .last .0) (st .last .1 .0) (s .pre .1) (ch .ensures .position .holds .few) (ch .ensures) (st .ensures) (st .kept .0)
 
 same-length : tie.Need-same-length
 same-length c = search needs
@@ -72,11 +73,13 @@ returns c =
     let rest = drop (3 * s .args .h) (st .last .0) in
     let lb : length bb ≡ 3 * s .args .h = ad .kept .1 .0 ∙ length-take-le (3 * s .args .h) (st .last .0) (omega (arith, st .kept .0, f .place, f .room)) in (
       record { few = ch .ensures .position .holds .few; long = ch .ensures .position .holds .counted; named = ad .ensures .0 },
-      λ c′ y em run.
+      beside _ (3 * s .args .h) (s .args .at) (s .args .l) (ch .result .count) (s .args .b .now) (st .ensures .b₁) (bb ++ rest) (ch .ensures .position .holds .few) (omega (arith, f .place))
+          (st .ensures .noted) (drop-at bb rest (3 * s .args .h) lb ∙ st .ensures .history),
+      λ c′ y em owns run.
           let hi : s .args .i < 2 ^ suc (suc (s .args .deep)) = omega (arith, f .inside, f .sizes .whole) in
-          let chosen = subst (λ (m : List ℕ). Chosen (getD (unpacked m) (s .args .i) 0) (s .args .i) (s .args .l) (s .args .h) (s .args .t .now) (take (3 * s .args .h) (s .args .b .now)) (s .args .slots .now) (s .args .s) (ch .result)) (sym em) (ch .ensures) in
-          let st′ = chosen-step c′ y (s .args .deep) (s .args .l) (s .args .h) (s .args .i) (s .args .s) (ch .result) (s .args .t .now) (s .args .b .now) (s .args .slots .now) run hi chosen in
-          let lost = chosen-lost c′ y (s .args .deep) (s .args .l) (s .args .h) (s .args .i) (s .args .s) (ch .result) (s .args .t .now) (s .args .b .now) (s .args .slots .now) run hi chosen in
+          let chosen = subst (λ (m : List ℕ). Chosen (getD (unpacked m) (s .args .i) 0) (s .args .i) (s .args .l) (s .args .h) (s .args .t .now) (take (3 * s .args .h) (s .args .b .now)) (s .args .slots .now) (s .args .bits .now) (s .args .s) (ch .result)) (sym em) (ch .ensures) in
+          let st′ = chosen-step c′ y (s .args .deep) (s .args .l) (s .args .h) (s .args .i) (s .args .s) (ch .result) (s .args .t .now) (s .args .b .now) (s .args .slots .now) run hi (s .args .bits .now) owns chosen in
+          let lost = chosen-lost c′ y (s .args .deep) (s .args .l) (s .args .h) (s .args .i) (s .args .s) (ch .result) (s .args .t .now) (s .args .b .now) (s .args .slots .now) run hi (s .args .bits .now) owns chosen in
           running-more c′ y (s .args .deep) (s .args .l) (s .args .h) (s .args .i) (s .args .at) (s .args .s) (ch .result) (s .args .t .now) (s .args .b .now) (s .args .slots .now) (st .last .0) (st .last .1 .0) (ad .last .0) (bb ++ rest) (ad .last .1 .1 .0)
           (f .sizes .list) (s .pre .1 .few) (ch .ensures .position .holds .few) (ch .ensures .position .holds .counted)
           (top-low (s .args .deep) (s .args .l) (s .args .h) (s .args .n) (s .args .i) (s .args .at) (s .args .t .now) (s .args .b .now) (s .args .slots .now) (s .args .map .now) (s .pre .0)) (f .place) hi run st′ lost (st .ensures)

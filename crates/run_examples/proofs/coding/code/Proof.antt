@@ -9,7 +9,7 @@ array-borrow-prefix-space : tie.Need-array-borrow-prefix-space
 array-borrow-prefix-space c = search needs
 
 slice-aggregate-output : tie.Need-slice-aggregate-output
-slice-aggregate-output c = part-length (c .before .before .before .args .len) 16 5 (omega arith)
+slice-aggregate-output c = part-length (c .before .before .before .before .args .len) 16 5 (omega arith)
 
 answer-requires : tie.Need-answer-requires
 answer-requires c κs = tt

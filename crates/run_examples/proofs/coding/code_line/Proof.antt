@@ -25,6 +25,12 @@ slice-aggregate-read-bytes-2 c = search needs
 read-bytes-requires-2 : tie.Need-read-bytes-requires-2
 read-bytes-requires-2 c κs = tt
 
+slice-aggregate-read-bytes-3 : tie.Need-slice-aggregate-read-bytes-3
+slice-aggregate-read-bytes-3 c = search needs
+
+read-bytes-requires-3 : tie.Need-read-bytes-requires-3
+read-bytes-requires-3 c κs = tt
+
 array-read-least : tie.Need-array-read-least
 array-read-least c = search needs
 
@@ -39,16 +45,25 @@ array-share-prefix-map c = search needs
 
 slice-aggregate-code : tie.Need-slice-aggregate-code
 slice-aggregate-code c =
-    let o = c .before .before .before .before .before .before .read-bytes in
+    let o = c .before .before .before .before .before .before .before .before .before .read-bytes in
     let k : length (o .last .1 .1 .0) ≡ 2 = o .kept .1 .1 .0 in
+    sym (length-take-le (o .result .len) (o .last .1 .1 .0) (omega (arith, o .ensures)))
+
+array-share-prefix-pairs : tie.Need-array-share-prefix-pairs
+array-share-prefix-pairs c = search needs
+
+slice-aggregate-code-2 : tie.Need-slice-aggregate-code-2
+slice-aggregate-code-2 c =
+    let o = c .before .before .before .before .before .before .before .read-bytes2 in
+    let k : length (o .last .1 .1 .0) ≡ 16 = o .kept .1 .1 .0 in
     sym (length-take-le (o .result .len) (o .last .1 .1 .0) (omega (arith, o .ensures)))
 
 array-share-prefix-given : tie.Need-array-share-prefix-given
 array-share-prefix-given c = search needs
 
-slice-aggregate-code-2 : tie.Need-slice-aggregate-code-2
-slice-aggregate-code-2 c =
-    let o = c .before .before .before .before .read-bytes2 in
+slice-aggregate-code-3 : tie.Need-slice-aggregate-code-3
+slice-aggregate-code-3 c =
+    let o = c .before .before .before .before .before .read-bytes3 in
     let k : length (o .last .1 .1 .0) ≡ 16 = o .kept .1 .1 .0 in
     sym (length-take-le (o .result .len) (o .last .1 .1 .0) (omega (arith, o .ensures)))
 
@@ -68,12 +83,16 @@ code-line-spec =
     read-bytes-requires
     slice-aggregate-read-bytes-2
     read-bytes-requires-2
+    slice-aggregate-read-bytes-3
+    read-bytes-requires-3
     array-read-least
     least-requires
     array-read-code
     array-share-prefix-map
     slice-aggregate-code
-    array-share-prefix-given
+    array-share-prefix-pairs
     slice-aggregate-code-2
+    array-share-prefix-given
+    slice-aggregate-code-3
     code-requires
     returns)

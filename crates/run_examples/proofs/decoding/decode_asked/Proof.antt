@@ -9,31 +9,31 @@ array-borrow-prefix-number-tables : tie.Need-array-borrow-prefix-number-tables
 array-borrow-prefix-number-tables c = search needs
 
 slice-aggregate-numbers : tie.Need-slice-aggregate-numbers
-slice-aggregate-numbers c = part-length (c .before .before .args .x .numbers) 512 5 (omega arith)
+slice-aggregate-numbers c = part-length (c .before .before .before .args .x .numbers) 512 5 (omega arith)
 
 array-borrow-prefix-byte-tables : tie.Need-array-borrow-prefix-byte-tables
 array-borrow-prefix-byte-tables c = search needs
 
 slice-aggregate-bytes : tie.Need-slice-aggregate-bytes
-slice-aggregate-bytes c = part-length (c .before .before .before .args .x .bytes) 320 5 (omega arith)
+slice-aggregate-bytes c = part-length (c .before .before .before .before .args .x .bytes) 320 5 (omega arith)
 
 array-borrow-prefix-input-rows : tie.Need-array-borrow-prefix-input-rows
 array-borrow-prefix-input-rows c = search needs
 
 slice-aggregate-inputs : tie.Need-slice-aggregate-inputs
-slice-aggregate-inputs c = part-length (c .before .before .before .before .args .x .inputs) 16 5 (omega arith)
+slice-aggregate-inputs c = part-length (c .before .before .before .before .before .args .x .inputs) 16 5 (omega arith)
 
 array-borrow-prefix-code-rows : tie.Need-array-borrow-prefix-code-rows
 array-borrow-prefix-code-rows c = search needs
 
 slice-aggregate-words : tie.Need-slice-aggregate-words
-slice-aggregate-words c = part-length (c .before .before .before .before .before .args .x .words) 16 5 (omega arith)
+slice-aggregate-words c = part-length (c .before .before .before .before .before .before .args .x .words) 16 5 (omega arith)
 
 array-borrow-prefix-row-scores : tie.Need-array-borrow-prefix-row-scores
 array-borrow-prefix-row-scores c = search needs
 
 slice-aggregate-scores : tie.Need-slice-aggregate-scores
-slice-aggregate-scores c = part-length (c .before .before .before .before .before .before .args .x .scores) 1 _ (omega arith)
+slice-aggregate-scores c = part-length (c .before .before .before .before .before .before .before .args .x .scores) 1 _ (omega arith)
 
 decode-requires : tie.Need-decode-requires
 decode-requires c κs = tt

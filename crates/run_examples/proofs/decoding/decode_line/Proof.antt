@@ -19,6 +19,12 @@ slice-aggregate-read-bytes c = search needs
 read-bytes-requires : tie.Need-read-bytes-requires
 read-bytes-requires c κs = tt
 
+slice-aggregate-read-bytes-2 : tie.Need-slice-aggregate-read-bytes-2
+slice-aggregate-read-bytes-2 c = search needs
+
+read-bytes-requires-2 : tie.Need-read-bytes-requires-2
+read-bytes-requires-2 c κs = tt
+
 slice-aggregate-read-soft : tie.Need-slice-aggregate-read-soft
 slice-aggregate-read-soft c = search needs
 
@@ -30,16 +36,25 @@ array-share-prefix-map c = search needs
 
 slice-aggregate-decode-asked : tie.Need-slice-aggregate-decode-asked
 slice-aggregate-decode-asked c =
-    let o = c .before .before .before .before .before .read-bytes in
+    let o = c .before .before .before .before .before .before .before .before .read-bytes in
     let k : length (o .last .1 .1 .0) ≡ 2 = o .kept .1 .1 .0 in
+    sym (length-take-le (o .result .len) (o .last .1 .1 .0) (omega (arith, o .ensures)))
+
+array-share-prefix-pairs : tie.Need-array-share-prefix-pairs
+array-share-prefix-pairs c = search needs
+
+slice-aggregate-decode-asked-2 : tie.Need-slice-aggregate-decode-asked-2
+slice-aggregate-decode-asked-2 c =
+    let o = c .before .before .before .before .before .before .read-bytes2 in
+    let k : length (o .last .1 .1 .0) ≡ 16 = o .kept .1 .1 .0 in
     sym (length-take-le (o .result .len) (o .last .1 .1 .0) (omega (arith, o .ensures)))
 
 array-share-prefix-soft : tie.Need-array-share-prefix-soft
 array-share-prefix-soft c = search needs
 
-slice-aggregate-decode-asked-2 : tie.Need-slice-aggregate-decode-asked-2
-slice-aggregate-decode-asked-2 c =
-    let o = c .before .before .before .read-soft in
+slice-aggregate-decode-asked-3 : tie.Need-slice-aggregate-decode-asked-3
+slice-aggregate-decode-asked-3 c =
+    let o = c .before .before .before .before .read-soft in
     let k : length (o .last .1 .1 .0) ≡ 16 = o .kept .1 .1 .0 in
     sym (length-take-le (o .result) (o .last .1 .1 .0) (omega (arith, o .ensures)))
 
@@ -63,12 +78,16 @@ decode-line-spec =
     read-fields-requires
     slice-aggregate-read-bytes
     read-bytes-requires
+    slice-aggregate-read-bytes-2
+    read-bytes-requires-2
     slice-aggregate-read-soft
     read-soft-requires
     array-share-prefix-map
     slice-aggregate-decode-asked
-    array-share-prefix-soft
+    array-share-prefix-pairs
     slice-aggregate-decode-asked-2
+    array-share-prefix-soft
+    slice-aggregate-decode-asked-3
     slice-aggregate-read-asked
     read-asked-requires
     decode-asked-requires
