@@ -86,7 +86,7 @@ $(OUT)/bench_codec: $(BENCH) include/caldurrex.h tests/pairs.h tests/draw.h test
 	$(CC) $(CFLAGS) -Iinclude -Itests -o $@ $(BENCH) $(LIBRARY)
 
 BENCH_DECODER = bench/bench_decoder.c bench/plain_decoder.c tests/pairs.c tests/draw.c tests/reference_codec.c
-BENCH_HEADERS = bench/plain_decoder.h include/caldurrex.h tests/pairs.h tests/draw.h tests/reference_codec.h
+BENCH_HEADERS = bench/plain_decoder.h bench/plain_tables.h include/caldurrex.h tests/pairs.h tests/draw.h tests/reference_codec.h
 
 # The plain C decoder is compiled for speed, or the comparison would not be fair.
 $(OUT)/bench_decoder: $(BENCH_DECODER) $(BENCH_HEADERS) $(LIBRARY)
