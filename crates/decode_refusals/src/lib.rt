@@ -1,4 +1,4 @@
-// The refusals of a decoder call, 1 to 10 in turn, decided before anything is written.
+// The refusals of a decoder call in turn, 1 to 10 with 15 behind 3, decided before anything is written.
 ghost use mathlib.Core.Path.{_≡_};
 ghost use mathlib.Core.Bool.{_||_};
 ghost use Prim.Native.Nat.{_≤_};

@@ -4,15 +4,14 @@ use mathlib.Core.Bool.{Bool, false, not, cond, _||_}
 use mathlib.Core.List.{List, [], _∷_}
 use Prim.Native.Nat.{ℕ, _+_, _-_, _*_, _%_, _<_, _≤_}
 use native.Mathlib.Omega.{arith}
-use native.Mathlib.Numerals.{add-one}
 use lib.ListN.{length, drop, getD, drop-of-length-le, length-drop, length-take, List·getD-eq-default}
-use lib.Seq.{drop-cons}
 use lib.Dec.{eqb}
 use Rattle.spec.specs.Bits.{_⊕_, unpacked}
 use Rattle.spec.specs.Code.{Pair, pair, pairsIn, sumAt}
 use Rattle.spec.specs.Faults.{some}
 use Rattle.spec.specs.Record.{twoAt}
 use Rattle.spec.specs.Refusals.{before, notRising}
+use Rattle.laws.specs.FrozenMap.{rest}
 use Rattle.laws.specs.MapBits.{flagsOf}
 
 -- four bytes a pair
@@ -24,9 +23,6 @@ pairs-long (a ∷ b ∷ c ∷ []) e = absurd (omega (arith, e))
 pairs-long (a ∷ b ∷ c ∷ d ∷ s) e =
     let h : length s % 4 ≡ 0 = omega arith in
     omega (arith, pairs-long s h)
-
-rest : (s : List ℕ) (i : ℕ) → i < length s → drop i s ≡ getD s i 0 ∷ drop (i + 1) s
-rest s i h = rw (add-one i) (drop-cons s i 0 h)
 
 -- the pair that begins at a place
 abbrev pub pairAt : List ℕ → ℕ → Pair

@@ -30,7 +30,7 @@ module _ (c : Code) (y : List ℤ) (deep l h i at : ℕ) (s r : Live) (t b slots
     (list : l ≤ 32) (few : s .count ≤ l) (few′ : r .count ≤ l) (long : length (entries r) ≡ r .count) (low : slotStart 1 l l ≤ h) (place : at ≡ 3 * h + l * i)
     (hi : i < 2 ^ suc (suc deep)) (run : Running c y deep l h i s t b slots)
     (step : Step (cost (c .m) y) (suc i) (prefixes c y l i) (prefixes c y l (suc i)) (entries r)) (lost : r .lost ≡ lostCost c y l (suc i))
-    (set : Settled deep l h i at r b slots b′ slots′)
+    (set : Settled deep l h i at (r .count) (r .code) b slots b′ slots′)
     (adv : Advance deep l h (r .count) i t (take (3 * h) b′) slots′ t″ (take (3 * h) b″) slots″)
     (base : Kept h t t″) (history : drop (3 * h) b″ ≡ drop (3 * h) b′) where
   ps : List (List ℕ)

@@ -50,7 +50,7 @@ module _ (deep l h n i at : ℕ) (t b slots map : List ℕ) (f : PositionFits de
 
   -- the slot numbers after the cut name slots
   module _ (x : ℕ) (s r : Live) (b₀ own b′ slots′ : List ℕ) (st : Standing deep l s slots) (few : r .count ≤ l)
-      (ch : Chosen x i l h t b₀ slots own s r) (set : Settled deep l h i at r b slots b′ slots′) where
+      (ch : Chosen x i l h t b₀ slots own s r) (set : Settled deep l h i at (r .count) (r .code) b slots b′ slots′) where
     known : (k : ℕ) → k < r .count → getD (set .parents) k 0 < s .count
     known k hk =
         omega (arith, set .lineage .parents-are k hk, parents-known x l (s .count) (entries s) (ch .bs) (ch .cs) (ch .ds) r (omega (arith, st .few, f .sizes .list)) (ch .position .holds) k hk)

@@ -35,6 +35,10 @@ take-same (suc k) (x ∷ b) (y ∷ b′) e h =
 row-end : (n r l : ℕ) → r < l → n * r + n ≤ n * l
 row-end n r l h = let e : n * suc r ≤ n * l = mul-le-mul-left n h in omega arith
 
+-- the rows of the first count ranks have no more bytes than those of all
+pub rows-less : (n l count bytes : ℕ) → count ≤ l → bytes ≡ n * count → bytes ≤ n * l
+rows-less n l count bytes few e = let less : n * count ≤ n * l = mul-le-mul-left n few in omega arith
+
 -- ---- a position writes its notes, which lie before the rows
 from-place : (k : ℕ) (u v : List ℕ) → drop k u ≡ drop k v → (j : ℕ) → k ≤ j → getD u j 0 ≡ getD v j 0
 from-place k u v e j h =
@@ -51,10 +55,10 @@ beside F k at l count b b₁ b′ few h wrote e = record {
   above = λ j hj. from-place k b′ b₁ e j (omega arith) ∙ wrote .above j (omega arith);
 }
 
-pub kept-on : (l h n i seen at : ℕ) (b b′ : List ℕ) → at ≡ 3 * h + l * i → seen ≤ i → i < n → length b′ ≡ length b → Beside (3 * h) at l b b′
-    → RowsKept l n seen (drop (3 * h) b) → RowsKept l n seen (drop (3 * h) b′)
-kept-on l h n i seen at b b′ place order inside same z =
-    rows-on l n seen (drop (3 * h) b) (drop (3 * h) b′) (drop (l * n) (drop (3 * h) b)) (drop (l * n) (drop (3 * h) b′)) below
+pub kept-on : (l h n i seen held at : ℕ) (b b′ : List ℕ) → at ≡ 3 * h + l * i → seen ≤ i → i < n → length b′ ≡ length b → Beside (3 * h) at l b b′
+    → RowsKept l n seen held (drop (3 * h) b) → RowsKept l n seen held (drop (3 * h) b′)
+kept-on l h n i seen held at b b′ place order inside same z =
+    rows-on l n seen held (drop (3 * h) b) (drop (3 * h) b′) (drop (l * n) (drop (3 * h) b)) (drop (l * n) (drop (3 * h) b′)) below
     (λ r hr. ap (λ (s : List ℕ). take seen (drop (n * r) s)) behind)
   where
     old : l * seen ≤ l * i
@@ -73,37 +77,41 @@ kept-on l h n i seen at b b′ place order inside same z =
         (λ j hj. getD-drop (3 * h + l * n) b′ j 0 ∙ z .above (3 * h + l * n + j) (omega (arith, next)) ∙ sym (getD-drop (3 * h + l * n) b j 0))
         ∙ sym (drop-drop (l * n) (3 * h) b)
 
--- ---- the rows of position i take the place of earlier ones; kept is l * n, the length of the history
-module _ (l h n i seen at kept : ℕ) (b rows : List ℕ) (f : OwnFits l h n i seen at (length b) (length rows)) (ek : kept ≡ l * n) where
-  notes : l * i ≤ l * n
-  notes = mul-le-mul-left l (f .stop)
+-- ---- the rows of position i take the place of earlier ones; the history has l * n notes, and the new rows have n * count bytes
+module _ (l h n i seen held count at notes bytes : ℕ) (b rows : List ℕ) (f : OwnFits l h n i seen held at (length b) (length rows)) (few : count ≤ l)
+    (en : notes ≡ l * n) (eb : bytes ≡ n * count) where
+  past : l * i ≤ l * n
+  past = mul-le-mul-left l (f .stop)
 
-  pub renewed : (k : ℕ) (g new : List ℕ) → g ≡ drop (3 * h) b → k ≡ kept → new ≡ take kept rows → RowsRenewed l n seen i g rows
-      → Renewed l h n i seen b (putMid (3 * h + kept) k b new) rows
-  renewed k g new eg lent is fresh = record { front = front; kept = back; fresh = λ s. subst (λ (u : List ℕ). PrefixRows l n i u rows) eg (fresh (subst (RowsKept l n seen) (sym eg) s)) }
+  pub renewed : (k : ℕ) (g new : List ℕ) → g ≡ drop (3 * h) b → k ≡ bytes → new ≡ take bytes rows → RowsRenewed l n seen held i count g rows
+      → Renewed l h n i seen held count b (putMid (3 * h + notes) k b new) rows
+  renewed k g new eg lent is brought = record { front = front; kept = back; fresh = fresh }
     where
-      front : (j : ℕ) → j < 3 * h + l * n → getD (putMid (3 * h + kept) k b new) j 0 ≡ getD b j 0
+      fresh : RowsKept l n seen held (drop (3 * h) b) → PrefixRows l n i count (drop (3 * h) b) rows
+      fresh s = subst (λ (u : List ℕ). PrefixRows l n i count u rows) eg (brought (subst (RowsKept l n seen held) (sym eg) s))
+
+      front : (j : ℕ) → j < 3 * h + l * n → getD (putMid (3 * h + notes) k b new) j 0 ≡ getD b j 0
       front j hj =
-          sym (getD-take (3 * h + kept) (putMid (3 * h + kept) k b new) j 0 (omega arith))
-          ∙ ap (λ (u : List ℕ). getD u j 0) (take-put (3 * h + kept) k b new (omega (arith, f .room)))
-          ∙ getD-take (3 * h + kept) b j 0 (omega arith)
+          sym (getD-take (3 * h + notes) (putMid (3 * h + notes) k b new) j 0 (omega arith))
+          ∙ ap (λ (u : List ℕ). getD u j 0) (take-put (3 * h + notes) k b new (omega (arith, f .room)))
+          ∙ getD-take (3 * h + notes) b j 0 (omega arith)
 
-      behind : drop (l * n) (drop (3 * h) (putMid (3 * h + kept) k b new)) ≡ take kept rows ++ postOf (3 * h + kept) k b
+      behind : drop (l * n) (drop (3 * h) (putMid (3 * h + notes) k b new)) ≡ take bytes rows ++ postOf (3 * h + notes) k b
       behind =
-          drop-drop (l * n) (3 * h) (putMid (3 * h + kept) k b new)
-          ∙ ap (λ (x : ℕ). drop (3 * h + x) (putMid (3 * h + kept) k b new)) (sym ek)
-          ∙ drop-at (take (3 * h + kept) b) (new ++ postOf (3 * h + kept) k b) (3 * h + kept) (length-take-le (3 * h + kept) b (omega (arith, f .room)))
-          ∙ ap (λ (u : List ℕ). u ++ postOf (3 * h + kept) k b) is
+          drop-drop (l * n) (3 * h) (putMid (3 * h + notes) k b new)
+          ∙ ap (λ (x : ℕ). drop (3 * h + x) (putMid (3 * h + notes) k b new)) (sym en)
+          ∙ drop-at (take (3 * h + notes) b) (new ++ postOf (3 * h + notes) k b) (3 * h + notes) (length-take-le (3 * h + notes) b (omega (arith, f .room)))
+          ∙ ap (λ (u : List ℕ). u ++ postOf (3 * h + notes) k b) is
 
-      back : RowsKept l n seen (drop (3 * h) b) → RowsKept l n i (drop (3 * h) (putMid (3 * h + kept) k b new))
+      back : RowsKept l n seen held (drop (3 * h) b) → RowsKept l n i count (drop (3 * h) (putMid (3 * h + notes) k b new))
       back s =
-          rows-on l n i (drop (3 * h) b) (drop (3 * h) (putMid (3 * h + kept) k b new)) rows (drop (l * n) (drop (3 * h) (putMid (3 * h + kept) k b new)))
-          (λ j hj. getD-drop (3 * h) (putMid (3 * h + kept) k b new) j 0 ∙ front (3 * h + j) (omega (arith, notes)) ∙ sym (getD-drop (3 * h) b j 0))
+          rows-on l n i count (drop (3 * h) b) (drop (3 * h) (putMid (3 * h + notes) k b new)) rows (drop (l * n) (drop (3 * h) (putMid (3 * h + notes) k b new)))
+          (λ j hj. getD-drop (3 * h) (putMid (3 * h + notes) k b new) j 0 ∙ front (3 * h + j) (omega (arith, past)) ∙ sym (getD-drop (3 * h) b j 0))
           (λ r hr.
           ap (λ (u : List ℕ). take i (drop (n * r) u)) behind
-          ∙ same-part (n * r) i kept (take kept rows ++ postOf (3 * h + kept) k b) rows (omega (arith, row-end n r l hr, f .stop))
-          (take-at (take kept rows) (postOf (3 * h + kept) k b) kept (length-take-le kept rows (omega (arith, f .wide)))))
-          (subst (λ (u : List ℕ). PrefixRows l n i u rows) eg (fresh (subst (RowsKept l n seen) (sym eg) s)))
+          ∙ same-part (n * r) i bytes (take bytes rows ++ postOf (3 * h + notes) k b) rows (omega (arith, row-end n r count hr, f .stop))
+          (take-at (take bytes rows) (postOf (3 * h + notes) k b) bytes (length-take-le bytes rows (omega (arith, rows-less n l count bytes few eb, f .wide)))))
+          (fresh s)
 
 -- ---- everything else stands where the bytes up to the end of the history are as before
 pub running-front : (c : Code) (y : List ℤ) (deep l h n i : ℕ) (s : Live) (t b b′ slots : List ℕ) → i ≤ n → length b′ ≡ length b → FrontKept l h n b b′

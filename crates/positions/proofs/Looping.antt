@@ -15,13 +15,12 @@ use Rattle.live.specs.declared.Live.{Live}
 use Rattle.live.specs.Lists.{entries, Holds}
 use Rattle.live.specs.Stands.{Rep}
 use Rattle.positions.specs.Running.{prefixAt, Call, Running, Standing, PositionFits, Owns, Beside, Moves, RunFits, Zeros, Runs}
-use Rattle.rows.specs.Trace.{Trace, begun}
 use Rattle.rows.specs.PrefixRows.{RowsKept}
 use Rattle.positions.specs.Own.{OwnFits, Owned}
 use Rattle.positions.proofs.Starting.{standing-start, running-start}
 use Rattle.positions.proofs.Keeping.{kept-on, running-front}
 
-pub record Looping (deep l h n p i at from seen rows : ℕ) (map pairs t₀ b₀ t b slots : List ℕ) (s : Live) : Type 0 where
+pub record Looping (deep l h n p i at from seen held rows : ℕ) (map pairs t₀ b₀ t b slots : List ℕ) (s : Live) : Type 0 where
   pub near : i ≤ p
   pub place : at ≡ 3 * h + l * i
   pub words : length t ≡ length t₀
@@ -30,14 +29,15 @@ pub record Looping (deep l h n p i at from seen rows : ℕ) (map pairs t₀ b₀
   pub numbers : length slots ≡ 1024
   pub part : Part from from pairs
   pub reached : Reached (flagsOf n map) i from pairs
+  pub few : held ≤ l
   pub order : seen ≤ i
-  pub kept : RowsKept l n seen (drop (3 * h) b)
+  pub kept : RowsKept l n seen held (drop (3 * h) b)
   pub standing : Standing deep l s slots
   pub running : (c : Code) (y : List ℤ) → c .map ≡ map → c .pairs ≡ pairs → Call c y deep → Started deep l h y t₀ → Zeros b₀ → Running c y deep l h i s t b slots
 
 module _ (deep l h n p rows₀ : ℕ) (map pairs t₀ b₀ : List ℕ) (f : RunFits deep l h n p (length t₀) (length b₀) rows₀ map pairs) where
   pub looping-start : (at rows : ℕ) (slots : List ℕ) (s : Live) → at ≡ 3 * h → rows ≡ rows₀ → length slots ≡ 1024 → Zeros slots → Holds s 1 (0 ∷ []) → Rep 0 ([] ∷ []) (entries s) → s .lost ≡ 4294967295
-      → Looping deep l h n p 0 at 0 0 rows map pairs t₀ b₀ t₀ b₀ slots s
+      → Looping deep l h n p 0 at 0 0 0 rows map pairs t₀ b₀ t₀ b₀ slots s
   looping-start at rows slots s e er long none holds rep nothing = record {
     near = omega arith;
     place = omega arith;
@@ -47,29 +47,26 @@ module _ (deep l h n p rows₀ : ℕ) (map pairs t₀ b₀ : List ℕ) (f : RunF
     numbers = long;
     part = record { whole = f .ruled .whole; begins = refl; ends = refl; order = omega arith; inside = omega arith };
     reached = reached-start (flagsOf n map) pairs (f .ruled);
+    few = omega arith;
     order = omega arith;
-    kept = λ r w t. no-rows t;
+    kept = λ r w hr t. absurd (omega arith);
     standing = standing-start deep l s slots (f .sizes .some) (f .sizes .deepest) (omega arith) none holds;
     running = λ c y em ep call a zeros. running-start c y deep l h n s t₀ b₀ slots (f .sizes) call a zeros none holds rep nothing;
   }
-    where
-      -- before the first position every prefix is empty
-      no-rows : {r : ℕ} {g w : List ℕ} → Trace l g 0 r w → [] ≡ w
-      no-rows (begun k) = refl
 
-  module _ (i at from seen rows : ℕ) (t b slots : List ℕ) (s : Live) (k : Looping deep l h n p i at from seen rows map pairs t₀ b₀ t b slots s) (hi : i < p) where
+  module _ (i at from seen held rows : ℕ) (t b slots : List ℕ) (s : Live) (k : Looping deep l h n p i at from seen held rows map pairs t₀ b₀ t b slots s) (hi : i < p) where
     inside : l * suc i ≤ l * n
     inside = mul-le-mul-left l (omega (arith, f .stop))
 
     pub next-room : at + l ≤ length b₀
     next-room = omega (arith, k .place, f .there, inside)
 
-    pub own-fits : OwnFits l h n i seen at (length b) rows
+    pub own-fits : OwnFits l h n i seen held at (length b) rows
     own-fits = record {
-      some = f .sizes .some;
       list = f .sizes .list;
       size = f .short;
       near = f .sizes .near;
+      few = k .few;
       order = k .order;
       stop = omega (arith, f .stop);
       place = k .place;
@@ -90,7 +87,7 @@ module _ (deep l h n p rows₀ : ℕ) (map pairs t₀ b₀ : List ℕ) (f : RunF
     }
 
     module _ (to : ℕ) (part : Part from to pairs) (ends : (flags : List ℕ) → Reached flags i from pairs → RunEnds flags i to pairs)
-        (seen′ : ℕ) (b′ own : List ℕ) (eb : length b′ ≡ length b) (got : Owned l h n i from to seen (s .count) seen′ pairs b b′ own) where
+        (seen′ held′ : ℕ) (b′ own : List ℕ) (eb : length b′ ≡ length b) (got : Owned l h n i from to seen held (s .count) seen′ held′ pairs b b′ own) where
       run : RunEnds (flagsOf n map) i to pairs
       run = ends (flagsOf n map) (k .reached)
 
@@ -105,7 +102,7 @@ module _ (deep l h n p rows₀ : ℕ) (map pairs t₀ b₀ : List ℕ) (f : RunF
 
       pub looping-more : (t′ b″ slots′ : List ℕ) (rows′ : ℕ) (r : Live) → rows′ ≡ rows → length t′ ≡ length t → length b″ ≡ length b′ → length slots′ ≡ length slots
           → Standing deep l r slots′ → Beside (3 * h) at l b′ b″ → Moves deep l h i map own s t b′ slots r t′ b″ slots′
-          → Looping deep l h n p (i + 1) (at + l) to seen′ rows′ map pairs t₀ b₀ t′ b″ slots′ r
+          → Looping deep l h n p (i + 1) (at + l) to seen′ held′ rows′ map pairs t₀ b₀ t′ b″ slots′ r
       looping-more t′ b″ slots′ rows′ r er et eb′ es st side mv = record {
         near = omega arith;
         place = omega (arith, k .place);
@@ -115,8 +112,9 @@ module _ (deep l h n p rows₀ : ℕ) (map pairs t₀ b₀ : List ℕ) (f : RunF
         numbers = es ∙ k .numbers;
         part = record { whole = part .whole; begins = part .ends; ends = part .ends; order = omega arith; inside = part .inside };
         reached = subst (λ (j : ℕ). Reached (flagsOf n map) j to pairs) (sym (add-one i)) (run .next);
+        few = got .few;
         order = omega (arith, got .order);
-        kept = kept-on l h n i seen′ at b′ b″ (k .place) (got .order) (omega (arith, f .stop)) eb′ side (got .kept (k .kept));
+        kept = kept-on l h n i seen′ held′ at b′ b″ (k .place) (got .order) (omega (arith, f .stop)) eb′ side (got .kept (k .kept));
         standing = st;
         running = λ c y em ep call a zeros.
             let old : Running c y deep l h i s t b slots = k .running c y em ep call a zeros in
@@ -124,9 +122,9 @@ module _ (deep l h n p rows₀ : ℕ) (map pairs t₀ b₀ : List ℕ) (f : RunF
             (mv c y em (owns c y ep old) (running-front c y deep l h n i s t b b′ slots (omega (arith, f .stop)) eb (got .front) old));
       }
 
-pub looping-end : (deep l h n p i at from seen rows : ℕ) (map pairs t₀ b₀ t b slots : List ℕ) (s : Live) → i ≡ p
-    → Looping deep l h n p i at from seen rows map pairs t₀ b₀ t b slots s → Runs deep l h p map pairs t₀ b₀ s t b
-looping-end deep l h n p i at from seen rows map pairs t₀ b₀ t b slots s e k = record {
+pub looping-end : (deep l h n p i at from seen held rows : ℕ) (map pairs t₀ b₀ t b slots : List ℕ) (s : Live) → i ≡ p
+    → Looping deep l h n p i at from seen held rows map pairs t₀ b₀ t b slots s → Runs deep l h p map pairs t₀ b₀ s t b
+looping-end deep l h n p i at from seen held rows map pairs t₀ b₀ t b slots s e k = record {
   few = k .standing .few;
   ran = λ c y em ep call a zeros.
       record { slots = slots; running = subst (λ (j : ℕ). Running c y deep l h j s t b slots) e (k .running c y em ep call a zeros) };

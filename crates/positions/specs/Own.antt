@@ -21,11 +21,11 @@ abbrev pub ownSum : ℕ → ℕ → ℕ → List ℕ → List ℕ → ℕ → �
 ownSum from i n pairs rows r = sumAt (pairsIn (drop from pairs)) i (take i (drop (n * r) rows))
 
 -- the lengths of the byte table and of the rows beside it; the notes of position i go to the place `at`
-pub record OwnFits (l h n i seen at bytes rows : ℕ) : Type 0 where
-  pub some : 1 ≤ l
+pub record OwnFits (l h n i seen held at bytes rows : ℕ) : Type 0 where
   pub list : l ≤ 32
   pub size : n ≤ 1024
   pub near : h ≤ 1000000
+  pub few : held ≤ l
   pub order : seen ≤ i
   pub stop : i ≤ n
   pub place : at ≡ 3 * h + l * i
@@ -37,16 +37,17 @@ pub record OwnFits (l h n i seen at bytes rows : ℕ) : Type 0 where
 abbrev pub FrontKept : ℕ → ℕ → ℕ → List ℕ → List ℕ → Type 0
 FrontKept l h n b b′ = (j : ℕ) → j < 3 * h + l * n → getD b′ j 0 ≡ getD b j 0
 
--- from the rows after `seen` positions to those after i
-pub record Renewed (l h n i seen : ℕ) (b b′ rows : List ℕ) : Type 0 where
+-- from the rows of the first `held` ranks after `seen` positions to those of the first count ranks after i
+pub record Renewed (l h n i seen held count : ℕ) (b b′ rows : List ℕ) : Type 0 where
   pub front : FrontKept l h n b b′
-  pub kept : RowsKept l n seen (drop (3 * h) b) → RowsKept l n i (drop (3 * h) b′)
-  pub fresh : RowsKept l n seen (drop (3 * h) b) → PrefixRows l n i (drop (3 * h) b) rows
+  pub kept : RowsKept l n seen held (drop (3 * h) b) → RowsKept l n i count (drop (3 * h) b′)
+  pub fresh : RowsKept l n seen held (drop (3 * h) b) → PrefixRows l n i count (drop (3 * h) b) rows
 
--- the rows that are kept are then those after r positions, and bits has the sums of the first count paths
-pub record Owned (l h n i from to seen count r : ℕ) (pairs b b′ bits : List ℕ) : Type 0 where
-  pub order : r ≤ i
+-- the rows that are kept are then those of the first held′ ranks after seen′ positions, and bits has the sums of the first count paths
+pub record Owned (l h n i from to seen held count seen′ held′ : ℕ) (pairs b b′ bits : List ℕ) : Type 0 where
+  pub few : held′ ≤ l
+  pub order : seen′ ≤ i
   pub front : FrontKept l h n b b′
-  pub kept : RowsKept l n seen (drop (3 * h) b) → RowsKept l n r (drop (3 * h) b′)
-  pub sums : RowsKept l n seen (drop (3 * h) b) → Over to i pairs
+  pub kept : RowsKept l n seen held (drop (3 * h) b) → RowsKept l n seen′ held′ (drop (3 * h) b′)
+  pub sums : RowsKept l n seen held (drop (3 * h) b) → Over to i pairs
       → (k : ℕ) (w : List ℕ) → k < count → Trace l (drop (3 * h) b) i k w → getD bits k 0 ≡ sumAt (pairsIn (drop from pairs)) i w

@@ -46,13 +46,13 @@ pub record SettleFits (deep l h at count bytes slots : ℕ) : Type 0 where
   pub room : at + l ≤ bytes
   pub long : 800 ≤ slots
 
--- the history, the slot numbers and the bits at the top, after position i, for the entries of s
-pub record Settled (deep l h i at : ℕ) (s : Live) (b slots b′ slots′ : List ℕ) : Type 0 where
+-- the history, the slot numbers and the bits at the top, after position i, for the first count entries of a list
+pub record Settled (deep l h i at count : ℕ) (code b slots b′ slots′ : List ℕ) : Type 0 where
   pub parents : List ℕ
   pub bits : List ℕ
-  pub lineage : Lineage (s .count) (s .code) parents bits
+  pub lineage : Lineage count code parents bits
   pub b₁ : List ℕ
-  pub noted : Wrote (λ r. noteOf (getD (s .code) r 0)) at (s .count) b b₁
-  pub cut : CutSlots deep (s .count) parents slots slots′
-  pub top : Wrote (λ r. getD bits r 0 % 2) (fieldAt h (i % 2) + slotStart 1 l 0) (s .count) (take (3 * h) b₁) (take (3 * h) b′)
+  pub noted : Wrote (λ r. noteOf (getD code r 0)) at count b b₁
+  pub cut : CutSlots deep count parents slots slots′
+  pub top : Wrote (λ r. getD bits r 0 % 2) (fieldAt h (i % 2) + slotStart 1 l 0) count (take (3 * h) b₁) (take (3 * h) b′)
   pub history : drop (3 * h) b′ ≡ drop (3 * h) b₁

@@ -1,6 +1,7 @@
 // All positions of a block, from the empty prefix to the stop position.
 ghost use lib.ListN.{length};
 ghost use Rattle.positions.specs.Running.{Runs, RunFits};
+use crate::own::Kept;
 use crate::own::own_bits;
 use crate::position::position;
 use code::run_end;
@@ -27,19 +28,19 @@ pub fn positions(
     let mut s = Live::start();
     let mut at = 3 * h;
     let mut from = 0;
-    let mut seen = 0;
+    let mut kept = Kept { seen: 0, held: 0 };
     let mut i = 0;
     while i < p {
         let to = run_end(pairs, from, i);
         let mut bits = [0u8; 32];
-        seen = own_bits(
+        kept = own_bits(
             b,
             rows,
             pairs,
             from,
             to,
             i,
-            seen,
+            kept,
             at,
             l,
             h,

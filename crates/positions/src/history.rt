@@ -14,7 +14,7 @@ fn note_of(code: u64) -> u8
 
 // The notes of the first count entries, at a place of the byte table.
 pub(crate) fn note(b: &mut [u8], at: usize, code: &[u64; 33], count: usize)
-    requires { ⌜ (at + count ≤ length (now b)) × (count ≤ 32) × (length (now code) ≡ 33) ⌝ }
+    requires { ⌜ (at + count ≤ length (now b)) × (count ≤ 32) × (count ≤ length (now code)) ⌝ }
     ensures { λ _. ⌜ Wrote (λ r. noteOf (getD (now (code .entry)) r 0)) at count (now (b .entry)) (now (b .exit)) ⌝ }
 {
     let mut r = 0;

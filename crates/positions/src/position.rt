@@ -38,9 +38,8 @@ fn choose(
     if flag(map, i) == 0 {
         return s.clear(&zeros, &ones, l);
     }
-    let mut costs = [0u32; 32];
-    own_costs(&mut costs, bits, &zeros, &ones, count);
-    s.freeze(bits, &costs, l)
+    own_costs(&mut zeros, bits, &ones, count);
+    s.freeze(bits, &zeros, l)
 }
 
 fn parent_byte(code: u64) -> u8
@@ -51,7 +50,7 @@ fn parent_byte(code: u64) -> u8
 
 // The parent and the last bit of each of the first count entries.
 fn lineage(code: &[u64; 33], count: usize, parents: &mut [u8; 32], bits: &mut [u8; 32])
-    requires { ⌜ (count ≤ 32) × (length (now code) ≡ 33) × (length (now parents) ≡ 32) × (length (now bits) ≡ 32) ⌝ }
+    requires { ⌜ (count ≤ 32) × (count ≤ length (now code)) × (length (now parents) ≡ 32) × (length (now bits) ≡ 32) ⌝ }
     ensures { λ _. ⌜ Lineage count (now (code .entry)) (now (parents .exit)) (now (bits .exit)) ⌝ }
 {
     let mut r = 0;
@@ -62,26 +61,25 @@ fn lineage(code: &[u64; 33], count: usize, parents: &mut [u8; 32], bits: &mut [u
     }
 }
 
-// The history, the slot numbers and the bits at the top follow the entries of s, which were chosen at position i.
+// The history, the slot numbers and the bits at the top follow the first count entries of a list, which were chosen at position i.
 fn settle(
     b: &mut [u8],
     slots: &mut [u8],
-    s: Live,
+    code: &[u64; 33],
+    count: usize,
     i: usize,
     at: usize,
     deep: usize,
     l: usize,
     h: usize,
 )
-    requires { ⌜ SettleFits deep l h at (s .count) (length (now b)) (length (now slots)) ⌝ }
-    ensures { λ _. ⌜ Settled deep l h i at s (now (b .entry)) (now (slots .entry)) (now (b .exit)) (now (slots .exit)) ⌝ }
+    requires { ⌜ SettleFits deep l h at count (length (now b)) (length (now slots)) × (count ≤ length (now code)) ⌝ }
+    ensures { λ _. ⌜ Settled deep l h i at count (now (code .entry)) (now (b .entry)) (now (slots .entry)) (now (b .exit)) (now (slots .exit)) ⌝ }
 {
-    let code = s.code;
-    let count = s.count;
-    note(b, at, &code, count);
+    note(b, at, code, count);
     let mut parents = [0u8; 32];
     let mut bits = [0u8; 32];
-    lineage(&code, count, &mut parents, &mut bits);
+    lineage(code, count, &mut parents, &mut bits);
     cut_slots(slots, &parents, count, deep);
     let k = 3 * h;
     top_bits(&mut b[..k], &bits, i, count, l, h);
@@ -108,8 +106,9 @@ pub(crate) fn position(
 {
     let k = 3 * h;
     let next = choose(t, &b[..k], slots, map, bits, s, i, l, h);
-    settle(b, slots, next, i, at, deep, l, h);
     let count = next.count;
+    let code = next.code;
+    settle(b, slots, &code, count, i, at, deep, l, h);
     advance(t, &mut b[..k], slots, i, deep, count, l, h, n);
     next
 }

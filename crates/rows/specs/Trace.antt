@@ -33,10 +33,11 @@ prefixesBack l g p zero = []
 prefixesBack l g p (suc r) = prefixesBack l g p r ++ (tracedBack l g p r ∷ [])
 
 -- Reading back from rank r after p positions as far as position `from` leads to rank q, and puts the bits from there on into their places
--- of a row. Where the history leads back to a prefix, it leads back from q to the front of it.
+-- of a row. Where the history leads back to a prefix, it leads back from q to the front of it. Whatever it holds, q has five bits.
 pub record LedBack (l from p r : ℕ) (g row₀ : List ℕ) (q : ℕ) (row : List ℕ) : Type 0 where
   pub rest : tracedBack l g from q ++ drop from row ≡ tracedBack l g p r ++ drop p row₀
   pub leads : l ≤ 32 → (w : List ℕ) → Trace l g p r w → Trace l g from q (take from w)
+  pub low : q < 32
 
 -- rows of n bytes for count paths of a list of l, after p positions; past is l * p
 pub record Fits (l p past n count inputs history : ℕ) : Type 0 where

@@ -18,6 +18,7 @@ returns c =
     let s = c .before .before .before .before in
     let a = s .args in
     record {
+      few = s .pre .0 .few;
       order = s .pre .0 .order;
       front = λ j h. refl;
       kept = λ rows. rows;
@@ -56,12 +57,13 @@ returns-2 c =
     let s = r .before .before .before .before .before .before .before in
     let a = s .args in
     record {
+      few = s .pre .2;
       order = omega arith;
       front = r .renew .ensures .front;
       kept = r .renew .ensures .kept;
       sums = λ rows over k w hk t.
           written (ownSum (a .from) (a .i) (a .n) (a .pairs .now) (r .renew .last .1 .0)) (a .count) (a .bits .now) _ (c .sum-rows .ensures over) k hk
-          ∙ ap (sumAt (pairsIn (drop (a .from) (a .pairs .now))) (a .i)) (r .renew .ensures .fresh rows k w t);
+          ∙ ap (sumAt (pairsIn (drop (a .from) (a .pairs .now))) (a .i)) (r .renew .ensures .fresh rows k w hk t);
     }
 
 pub own-bits-spec : {M : Type 1} → statement M

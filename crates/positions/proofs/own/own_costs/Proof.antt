@@ -1,5 +1,5 @@
-use mathlib.Core.Path.{_≡_}
-use Prim.Native.Nat.{_-_, _%_, _≤_, _<_}
+use mathlib.Core.Path.{_≡_, ap, _∙_}
+use Prim.Native.Nat.{ℕ, _-_, _%_, _≤_, _<_}
 use native.Mathlib.Omega.{arith}
 use borrow.Author.Needs.{needs}
 use lib.ListN.{getD}
@@ -10,15 +10,15 @@ use Rattle.positions.proofs.own.own_costs.Statement.{statement}
 use Rattle.positions.proofs.own.own_costs.Tie as tie
 
 abbrev Inv-loop : tie.InvT-loop
-Inv-loop costs₀ bits zeros ones count r₀ costs r = (r ≤ count) × Wrote (λ k. byBit (getD bits k 0 % 2) (getD zeros k 0) (getD ones k 0)) 0 r costs₀ costs
+Inv-loop costs₀ bits ones count r₀ costs r = (r ≤ count) × Wrote (λ k. byBit (getD bits k 0 % 2) (getD costs₀ k 0) (getD ones k 0)) 0 r costs₀ costs
 
 abbrev μ-loop : tie.MeasureT-loop
-μ-loop costs₀ bits zeros ones count r₀ costs r = count - r
+μ-loop costs₀ bits ones count r₀ costs r = count - r
 
 loop-holds : tie.Need-loop-holds Inv-loop μ-loop
 loop-holds c =
     let s = c .args in
-    (omega arith, wrote-none (λ k. byBit (getD (s .bits .now) k 0 % 2) (getD (s .zeros .now) k 0) (getD (s .ones .now) k 0)) 0 (s .costs .now))
+    (omega arith, wrote-none (λ k. byBit (getD (s .bits .now) k 0 % 2) (getD (s .costs .now) k 0) (getD (s .ones .now) k 0)) 0 (s .costs .now))
 
 element-copy-out-pick : tie.Need-element-copy-out-pick Inv-loop μ-loop
 element-copy-out-pick c = search needs
@@ -56,7 +56,8 @@ loop-again c =
     let s = c .before .before .before .before .before .before in
     let room : l .r < 32 = omega (arith, s .pre .0) in (
       omega arith,
-      wrote-first (λ k. byBit (getD (s .args .bits .now) k 0 % 2) (getD (s .args .zeros .now) k 0) (getD (s .args .ones .now) k 0)) (l .r) _ (s .args .costs .now) (l .costs) (omega (arith, s .pre .1)) (c .pick .ensures) (l .inv .1),
+      wrote-first (λ k. byBit (getD (s .args .bits .now) k 0 % 2) (getD (s .args .costs .now) k 0) (getD (s .args .ones .now) k 0)) (l .r) _ (s .args .costs .now) (l .costs) (omega (arith, s .pre .1))
+          (c .pick .ensures ∙ ap (λ (x : ℕ). byBit (getD (s .args .bits .now) (l .r) 0 % 2) x (getD (s .args .ones .now) (l .r) 0)) (l .inv .1 .above (l .r) (omega arith))) (l .inv .1),
     )
 
 returns : tie.Need-returns Inv-loop μ-loop

@@ -33,7 +33,7 @@ freeze-requires c κs = search needs
 returns-2 : tie.Need-returns-2
 returns-2 c =
     let o = c .before .before in
-    let k = o .before .before .before .before in
+    let k = o .before .before .before in
     let f = k .before in
     let w = f .before .top-costs in
     let s = f .before .before .before .before .before .before .before .before .args in

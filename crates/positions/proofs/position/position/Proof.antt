@@ -2,7 +2,7 @@ use mathlib.Core.Path.{_≡_, sym, _∙_}
 use mathlib.Core.List.{List, _++_}
 use Prim.Native.Nat.{ℕ, suc, _*_, _<_}
 use native.Mathlib.Omega.{arith}
-use lib.ListN.{length, take, drop, getD}
+use lib.ListN.{length, length-take, take, drop, getD}
 use borrow.Author.Needs.{needs}
 use mathlib.Core.Path.{subst}
 use Prim.Native.Nat.{_^_}
@@ -35,21 +35,24 @@ choose-requires c κs =
 
 settle-requires : tie.Need-settle-requires
 settle-requires c κs =
-    let s = c .before .before .before .before .before .before .before .before .before .before in
-    settle-fits (s .args .deep) (s .args .l) (s .args .h) (s .args .n) (s .args .i) (s .args .at) (s .args .t .now) (s .args .b .now) (s .args .slots .now) (s .args .map .now) (s .pre .0) (c .before .before .choose .result .count) (c .before .before .choose .ensures .position .holds .few)
+    let r = c .before .before .before .before .choose .result in
+    let s = c .before .before .before .before .before .before .before .before .before .before .before .before in (
+      settle-fits (s .args .deep) (s .args .l) (s .args .h) (s .args .n) (s .args .i) (s .args .at) (s .args .t .now) (s .args .b .now) (s .args .slots .now) (s .args .map .now) (s .pre .0) (r .count) (c .before .before .before .before .choose .ensures .position .holds .few),
+      omega (arith, length-take (r .count) (r .code), c .before .before .before .before .choose .ensures .position .holds .counted),
+    )
 
 slice-relend-prefix-advance : tie.Need-slice-relend-prefix-advance
 slice-relend-prefix-advance c = search needs
 
 slice-aggregate-advance : tie.Need-slice-aggregate-advance
 slice-aggregate-advance c =
-    let s = c .before .before .before .before .before .before .before .before .before .before .before .before .before .before .before .before .before in
+    let s = c .before .before .before .before .before .before .before .before .before .before .before .before .before .before .before .before .before .before .before in
     sym (length-take-le (3 * s .args .h) (c .before .before .before .before .before .before .settle .last .0) (omega (arith, c .before .before .before .before .before .before .settle .kept .0, s .pre .0 .place, s .pre .0 .room)))
 
 advance-requires : tie.Need-advance-requires
 advance-requires c κs =
-    let s = c .before .before .before .before .before .before .before .before .before .before .before .before .before .before .before .before .before .before in
-    let ch = c .before .before .before .before .before .before .before .before .before .before .choose in
+    let s = c .before .before .before .before .before .before .before .before .before .before .before .before .before .before .before .before .before .before .before .before in
+    let ch = c .before .before .before .before .before .before .before .before .before .before .before .before .choose in
     let st = c .before .before .before .before .before .before .before .settle in
     advance-fits (s .args .deep) (s .args .l) (s .args .h) (s .args .n) (s .args .i) (s .args .at) (s .args .t .now) (s .args .b .now) (s .args .slots .now) (s .args .map .now) (s .pre .0) _ (s .args .s) (ch .result) _ (s .args .bits .now) (st .last .0) (st .last .1 .0) (s .pre .1) (ch .ensures .position .holds .few) (ch .ensures) (st .ensures) (st .kept .0)
 
@@ -64,8 +67,8 @@ same-length-3 c = search needs
 
 returns : tie.Need-returns
 returns c =
-    let s = c .before .before .before .before .before .before .before .before .before .before .before .before .before .before .before .before .before .before .before .before .before .before .before .before .before in
-    let ch = c .before .before .before .before .before .before .before .before .before .before .before .before .before .before .before .before .before .choose in
+    let s = c .before .before .before .before .before .before .before .before .before .before .before .before .before .before .before .before .before .before .before .before .before .before .before .before .before .before .before in
+    let ch = c .before .before .before .before .before .before .before .before .before .before .before .before .before .before .before .before .before .before .before .choose in
     let st = c .before .before .before .before .before .before .before .before .before .before .before .before .before .before .settle in
     let ad = c .before .before .before .before .before .before .advance in
     let f = s .pre .0 in

@@ -15,8 +15,8 @@ lineage-requires c κs = search needs
 
 cut-slots-requires : tie.Need-cut-slots-requires
 cut-slots-requires c κs =
-    let s = c .before .before .before .before .before .before .before .before .before .before .before .before .before .before in
-    (s .pre .long, c .before .before .lineage .ensures .parents-long, omega (arith, s .pre .few, s .pre .list), s .pre .deepest)
+    let s = c .before .before .before .before .before .before .before .before .before .before .before in
+    (s .pre .0 .long, c .before .before .lineage .ensures .parents-long, omega (arith, s .pre .0 .few, s .pre .0 .list), s .pre .0 .deepest)
 
 mul-k : tie.Need-mul-k
 mul-k c = search needs
@@ -26,21 +26,21 @@ slice-relend-prefix-top-bits c = search needs
 
 slice-aggregate-top-bits : tie.Need-slice-aggregate-top-bits
 slice-aggregate-top-bits c =
-    let s = c .before .before .before .before .before .before .before .before .before .before .before .before .before .before .before .before .before .before in
-    sym (length-take-le (3 * s .args .h) (c .before .before .before .before .before .before .before .before .before .before .before .before .note .last .0) (omega (arith, s .pre .behind, s .pre .room, c .before .before .before .before .before .before .before .before .before .before .before .before .note .kept .0)))
+    let s = c .before .before .before .before .before .before .before .before .before .before .before .before .before .before .before in
+    sym (length-take-le (3 * s .args .h) (c .before .before .before .before .before .before .before .before .before .before .before .note .last .0) (omega (arith, s .pre .0 .behind, s .pre .0 .room, c .before .before .before .before .before .before .before .before .before .before .before .note .kept .0)))
 
 top-bits-requires : tie.Need-top-bits-requires
 top-bits-requires c κs =
-    let s = c .before .before .before .before .before .before .before .before .before .before .before .before .before .before .before .before .before .before .before in (
+    let s = c .before .before .before .before .before .before .before .before .before .before .before .before .before .before .before .before in (
       record {
         wide = omega arith;
-        long = s .pre .list;
-        low = s .pre .low;
-        bytes = omega (arith, length-take-le (3 * s .args .h) (c .before .before .before .before .before .before .before .before .before .before .before .before .before .note .last .0) (omega (arith, s .pre .behind, s .pre .room, c .before .before .before .before .before .before .before .before .before .before .before .before .before .note .kept .0)));
+        long = s .pre .0 .list;
+        low = s .pre .0 .low;
+        bytes = omega (arith, length-take-le (3 * s .args .h) (c .before .before .before .before .before .before .before .before .before .before .before .before .note .last .0) (omega (arith, s .pre .0 .behind, s .pre .0 .room, c .before .before .before .before .before .before .before .before .before .before .before .before .note .kept .0)));
       },
       c .before .before .before .before .before .before .before .lineage .ensures .bits-long,
-      s .pre .few,
-      s .pre .near,
+      s .pre .0 .few,
+      s .pre .0 .near,
     )
 
 same-length : tie.Need-same-length
@@ -51,9 +51,9 @@ same-length-2 c = search needs
 
 returns : tie.Need-returns
 returns c =
-    let s = c .before .before .before .before .before .before .before .before .before .before .before .before .before .before .before .before .before .before .before .before .before .before in
-    let n = c .before .before .before .before .before .before .before .before .before .before .before .before .before .before .before .before .note in
-    let k : length (take (3 * s .args .h) (n .last .0)) ≡ 3 * s .args .h = length-take-le (3 * s .args .h) (n .last .0) (omega (arith, s .pre .behind, s .pre .room, n .kept .0)) in
+    let s = c .before .before .before .before .before .before .before .before .before .before .before .before .before .before .before .before .before .before .before in
+    let n = c .before .before .before .before .before .before .before .before .before .before .before .before .before .before .before .note in
+    let k : length (take (3 * s .args .h) (n .last .0)) ≡ 3 * s .args .h = length-take-le (3 * s .args .h) (n .last .0) (omega (arith, s .pre .0 .behind, s .pre .0 .room, n .kept .0)) in
     let e : length (c .before .before .top-bits .last .0) ≡ 3 * s .args .h = c .before .before .top-bits .kept .0 ∙ k in
     record {
       parents = c .before .before .before .before .before .before .before .before .before .before .lineage .last .1 .1 .0;

@@ -13,10 +13,10 @@ use Rattle.rows.proofs.renew.renew_rows.Lts as lts
 use Rattle.rows.proofs.renew.renew_row.Reads as renew-row-reads
 
 abbrev Inv-loop : tie.InvT-loop
-Inv-loop rows₀ g l n seen i past kept r₀ at₀ rows r at = Renewing l n seen i (length rows₀) g r at rows
+Inv-loop rows₀ g l n seen held i past kept count r₀ at₀ rows r at = Renewing l n seen held i count (length rows₀) g r at rows
 
 abbrev μ-loop : tie.MeasureT-loop
-μ-loop rows₀ g l n seen i past kept r₀ at₀ rows r at = l - r
+μ-loop rows₀ g l n seen held i past kept count r₀ at₀ rows r at = count - r
 
 abbrev Turn : Type 0
 Turn = lts.In-loop (renew-row-reads.Asked, renew-row-reads.Learnt) reads.Pre reads.Post Inv-loop μ-loop
@@ -29,7 +29,7 @@ inside : (c : Turn) → c .before .loop .at + start c .args .n ≤ length (c .be
 inside c =
     let s = start c in
     let v = c .before .loop .inv in
-    omega (arith, v .same, next-inside (s .args .n) (length (s .args .rows .now)) (s .args .l) (c .before .loop .r) (c .before .loop .at) (v .at-is) (s .pre .1) (c .loop-test .taken))
+    omega (arith, v .same, next-inside (s .args .n) (length (s .args .rows .now)) (s .args .count) (c .before .loop .r) (c .before .loop .at) (v .at-is) (s .pre .2) (c .loop-test .taken))
 
 -- and is lent whole
 lent : (c : Turn) → let at = c .before .loop .at in
@@ -39,7 +39,7 @@ lent c = simp (length-take, length-drop) (omega (arith, inside c))
 loop-holds : tie.Need-loop-holds Inv-loop μ-loop
 loop-holds c =
     let s = c .before .before in
-    renewing-none (s .args .l) (s .args .n) (s .args .seen) (s .args .i) (length (s .args .rows .now)) (s .args .g .now) (s .pre .0 .stop) (s .pre .1) (s .args .rows .now) refl
+    renewing-none (s .args .l) (s .args .n) (s .args .seen) (s .args .held) (s .args .i) (s .args .count) (length (s .args .rows .now)) (s .args .g .now) (s .pre .0 .stop) (s .pre .2) (s .args .rows .now) refl
 
 add-renew-row : tie.Need-add-renew-row Inv-loop μ-loop
 add-renew-row c = omega (arith, inside c)
@@ -57,7 +57,7 @@ renew-row-requires : tie.Need-renew-row-requires Inv-loop μ-loop
 renew-row-requires c κs =
     let i = c .before in
     let f = start i .pre .0 in
-    (f, lent i, omega (arith, i .loop-test .taken, f .list))
+    (f, lent i, omega (arith, i .loop-test .taken, start i .pre .1, f .list))
 
 add-r : tie.Need-add-r Inv-loop μ-loop
 add-r c = search needs
@@ -74,7 +74,7 @@ loop-again c =
     let s = start i .args in
     let q = c .before .before .renew-row in
     let at : ℕ = i .before .loop .at in
-    renewing-more (s .l) (s .n) (s .seen) (s .i) (length (s .rows .now)) (s .g .now) (start i .pre .0 .stop) (start i .pre .1)
+    renewing-more (s .l) (s .n) (s .seen) (s .held) (s .i) (s .count) (length (s .rows .now)) (s .g .now) (start i .pre .0 .stop) (start i .pre .2)
     (i .before .loop .r) at (at + s .n - at) (i .before .loop .rows) (q .last .0) (i .before .loop .inv) (i .loop-test .taken) (omega arith)
     (q .kept .0 ∙ lent i) (q .kept .0) (q .ensures)
 
@@ -86,7 +86,7 @@ returns c =
     let l = c .before in
     let s = l .before .before .before in
     let a = s .args in
-    renewing-end (a .l) (a .n) (a .seen) (a .i) (length (a .rows .now)) (a .g .now) (s .pre .0 .stop) (s .pre .1) (l .loop .r) (l .loop .at) (l .loop .rows) (c .loop-test .left) (l .loop .inv)
+    renewing-end (a .l) (a .n) (a .seen) (a .held) (a .i) (a .count) (length (a .rows .now)) (a .g .now) (s .pre .0 .stop) (s .pre .2) (l .loop .r) (l .loop .at) (l .loop .rows) (c .loop-test .left) (l .loop .inv)
 
 pub renew-rows-spec : {M : Type 1} → statement M
 renew-rows-spec =
