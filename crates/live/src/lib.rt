@@ -7,11 +7,11 @@ ghost use mathlib.Core.List.{[], _∷_};
 ghost use Prim.Native.Nat.{_+_, _-_, _*_, _%_, _≤_, _<_, min};
 ghost use lib.ListN.{length, take, getD, replicate};
 ghost use lib.Dec.{leb};
-ghost use Rattle.spec.specs.Decoder.{insertBy};
-ghost use Rattle.live.specs.Entries.{codeOf, costOf, placeOf, bitOf, parentOf, below, crowded, lexOf, branches};
+ghost use Rattle.spec.specs.Decoder.{insertBy, sortBy};
+ghost use Rattle.live.specs.Entries.{codeOf, costOf, placeOf, bitOf, parentOf, below, crowded, lexOf, branches, childrenOf};
 ghost use Rattle.live.specs.Rising.{Rising};
 ghost use Rattle.live.specs.Lists.{entries, insertAll, Holds, Filled};
-ghost use Rattle.live.specs.Lost.{Dropped, Cut, Spread};
+ghost use Rattle.live.specs.Lost.{Dropped, Cut, Split};
 ghost use Rattle.live.specs.Stands.{Rep, Position};
 
 // The paths that are live, best first: the first `count` of `code`. The least cost that was ever dropped is `lost`, 2^32 - 1 where
@@ -164,6 +164,37 @@ fn put_branches(a: &mut [u64; 33], n: usize, l: usize, frozen: u8, first: u64, o
     m
 }
 
+// The children of each of the first n entries of a, two or, at a frozen position, one: the best l, in order, become the first of `out`, and
+// the result says how many. A first child goes on by a bit of `bits` at a cost of `firsts`, a second by 1 at a cost of `ones`. What is left
+// out of them is not counted. It works on arrays, since a list by value that is handed to a loop and back is copied both times.
+fn put_children(
+    out: &mut [u64; 33],
+    a: &[u64; 33],
+    n: usize,
+    frozen: u8,
+    bits: &[u8; 32],
+    firsts: &[u32; 32],
+    ones: &[u32; 32],
+    l: usize,
+) -> usize
+    requires { ⌜ (n ≤ 32) × (0 < l) × (l ≤ 33) × (length (now out) ≡ 33) × (length (now a) ≡ 33) ⌝ }
+    ensures { λ r. ⌜ Filled (now (out .exit)) r l
+        (take l (sortBy leb (childrenOf frozen (take n (now (a .entry))) (now (bits .entry)) (now (firsts .entry)) (now (ones .entry)) n))) ⌝ }
+{
+    let anew = is_crowded(a, n);
+    let mut m = 0;
+    let mut i = 0;
+    while i < n {
+        let x = lex(a, n, anew, i);
+        let place = child_place(x, bits[i]);
+        let first = entry(firsts[i], place, i);
+        let one = entry(ones[i], 2 * x + 1, i);
+        m = put_branches(out, m, l, frozen, first, one);
+        i += 1;
+    }
+    m
+}
+
 impl Live {
     // The empty prefix alone.
     pub fn start() -> Self
@@ -202,48 +233,22 @@ impl Live {
         self
     }
 
-    // The children of each entry, two or, at a frozen position, one: the best l, in order. The first goes on by a bit of `bits` at a
-    // cost of `firsts`, the second by 1 at a cost of `ones`. What is left out of them is not counted.
-    fn extend(
-        self,
-        frozen: u8,
-        bits: &[u8; 32],
-        firsts: &[u32; 32],
-        ones: &[u32; 32],
-        l: usize,
-    ) -> Self
-        requires { ⌜ (self .count ≤ 32) × (0 < l) × (l ≤ 33) ⌝ }
-        ensures { λ r. ⌜ Spread frozen l (now (bits .entry)) (now (firsts .entry)) (now (ones .entry)) self r ⌝ }
+    // The two children of each entry, in order, as many as l + 1 of the best.
+    pub fn split(self, zeros: &[u32; 32], ones: &[u32; 32], l: usize) -> Self
+        requires { ⌜ (self .count ≤ 32) × (l ≤ 32) ⌝ }
+        ensures { λ r. ⌜ Split (l + 1) (now (zeros .entry)) (now (ones .entry)) self r ⌝ }
     {
         let n = self.count;
         let lost = self.lost;
         let code = self.code;
-        let anew = is_crowded(&code, n);
+        let bits = [0u8; 32];
         let mut out = [0u64; 33];
-        let mut m = 0;
-        let mut i = 0;
-        while i < n {
-            let x = lex(&code, n, anew, i);
-            let place = child_place(x, bits[i]);
-            let first = entry(firsts[i], place, i);
-            let one = entry(ones[i], 2 * x + 1, i);
-            m = put_branches(&mut out, m, l, frozen, first, one);
-            i += 1;
-        }
+        let count = put_children(&mut out, &code, n, 0, &bits, zeros, ones, l + 1);
         Self {
-            count: m,
+            count,
             lost,
             code: out,
         }
-    }
-
-    // The two children of each entry, in order, as many as l + 1 of the best.
-    pub fn split(self, zeros: &[u32; 32], ones: &[u32; 32], l: usize) -> Self
-        requires { ⌜ (self .count ≤ 32) × (l ≤ 32) ⌝ }
-        ensures { λ r. ⌜ Spread 0 (l + 1) (replicate 32 0) (now (zeros .entry)) (now (ones .entry)) self r ⌝ }
-    {
-        let bits = [0u8; 32];
-        self.extend(0, &bits, zeros, ones, l + 1)
     }
 
     // A clear position: each path splits in two, and the best l of the children stay. The best of the others is the one that is cut off.
@@ -259,6 +264,15 @@ impl Live {
         requires { ⌜ (self .count ≤ l) × (0 < l) × (l ≤ 32) ⌝ }
         ensures { λ r. ⌜ Position 1 l (now (bits .entry)) (now (costs .entry)) (now (costs .entry)) self r ⌝ }
     {
-        self.extend(1, bits, costs, costs, l)
+        let n = self.count;
+        let lost = self.lost;
+        let code = self.code;
+        let mut out = [0u64; 33];
+        let count = put_children(&mut out, &code, n, 1, bits, costs, costs, l);
+        Self {
+            count,
+            lost,
+            code: out,
+        }
     }
 }

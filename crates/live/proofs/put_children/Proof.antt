@@ -1,6 +1,6 @@
--- `Live::extend` meets its contract. The loop's invariant: out has the best l children of the first i entries.
+-- `live::put_children` meets its contract. The loop's invariant: out has the best l children of the first i entries.
 -- Assumes nothing.
-use mathlib.Core.Path.{_≡_, refl, sym}
+use mathlib.Core.Path.{_≡_, sym}
 use Prim.Native.Nat.{_-_, _≤_, _<_}
 use native.Mathlib.Omega.{arith}
 use borrow.Author.Needs.{needs}
@@ -10,22 +10,22 @@ use Rattle.spec.specs.Decoder.{sortBy}
 use Rattle.live.specs.Entries.{childrenOf}
 use Rattle.live.specs.Rising.{none₂}
 use Rattle.live.specs.Lists.{Filled}
-use Rattle.live.proofs.Turns.{holds, children-turn}
+use Rattle.live.proofs.Turns.{children-turn}
 use lib.ListN.{take}
-use Rattle.live.proofs.Live.extend.Statement.{statement}
-use Rattle.live.proofs.Live.extend.Tie as tie
+use Rattle.live.proofs.put_children.Statement.{statement}
+use Rattle.live.proofs.put_children.Tie as tie
 
 abbrev Inv-loop : tie.InvT-loop
-Inv-loop frozen bits firsts ones l n lost code anew out₀ m₀ i₀ out m i = (i ≤ n) × Filled out m l (take l (sortBy leb (childrenOf frozen (take n code) bits firsts ones i)))
+Inv-loop out₀ a n frozen bits firsts ones l anew m₀ i₀ out m i = (i ≤ n) × Filled out m l (take l (sortBy leb (childrenOf frozen (take n a) bits firsts ones i)))
 
 abbrev μ-loop : tie.MeasureT-loop
-μ-loop frozen bits firsts ones l n lost code anew out₀ m₀ i₀ out m i = n - i
+μ-loop out₀ a n frozen bits firsts ones l anew m₀ i₀ out m i = n - i
 
 is-crowded-requires : tie.Need-is-crowded-requires Inv-loop μ-loop
 is-crowded-requires c κs = search needs
 
 loop-holds : tie.Need-loop-holds Inv-loop μ-loop
-loop-holds c = (omega arith, record { long = refl; few = omega arith; are = sym (take-nil (c .before .before .before .args .l)); up = none₂ })
+loop-holds c = (omega arith, record { long = c .before .pre .3; few = omega arith; are = sym (take-nil (c .before .args .l)); up = none₂ })
 
 lex-requires : tie.Need-lex-requires Inv-loop μ-loop
 lex-requires c κs = search needs
@@ -75,18 +75,18 @@ loop-again c =
     let e1 = e2 .before .before in
     let o = e1 .before .before in
     let x = o .before .before in
-    let t = x .before .before in
+    let t = x .before in
     let l = t .before in
-    let s = l .before .before .before .before .args in
-    let m : l .loop .i < s .self .count = t .loop-test .taken in
+    let s = l .before .before .args in
+    let m : l .loop .i < s .n = t .loop-test .taken in
     let p = c .put-branches .ensures in (
       omega arith,
       record {
         long = p .long;
         few = p .few;
         are =
-            children-turn (s .frozen) (s .l) (s .self .count) (l .loop .i) (x .lex .result) (o .child-place .result) (e1 .entry .result) (e2 .entry2 .result)
-            (s .self .code) (s .bits .now) (s .firsts .now) (s .ones .now) _ _
+            children-turn (s .frozen) (s .l) (s .n) (l .loop .i) (x .lex .result) (o .child-place .result) (e1 .entry .result) (e2 .entry2 .result)
+            (s .a .now) (s .bits .now) (s .firsts .now) (s .ones .now) _ _
             m (l .loop .inv .1 .are) (x .lex .ensures .1) (o .child-place .ensures .0) (e1 .entry .ensures) (e2 .entry2 .ensures) (p .are);
         up = p .up;
       },
@@ -95,13 +95,12 @@ loop-again c =
 returns : tie.Need-returns Inv-loop μ-loop
 returns c =
     let l = c .before in
-    let s = l .before .before .before .before .args in
-    let e : l .loop .i ≡ s .self .count = omega arith in
-    let p = rw e at (l .loop .inv .1) in
-    record { holds = holds _ (s .l) _ (p .long) (omega arith) (p .few) (p .are); lost = refl }
+    let s = l .before .before .args in
+    let e : l .loop .i ≡ s .n = omega arith in
+    rw e at (l .loop .inv .1)
 
-pub extend-spec : {M : Type 1} → statement M
-extend-spec =
+pub put-children-spec : {M : Type 1} → statement M
+put-children-spec =
     tie.close
     (tie.spec
     Inv-loop
