@@ -34,9 +34,8 @@ pub(crate) fn write_code(bytes: &[u8], at: Layout, map: &mut [u8], pairs: &mut [
         × (now (pairs .exit) ≡ padded 0 (length (now (pairs .entry))) (recordPairs (now (bytes .entry)))) ⌝ }
 {
     let map_end = at.map + (at.n + 7) / 8;
-    let pairs_end = at.pairs + 4 * (at.count as usize);
     write_part(bytes, at.map, map_end, map);
-    write_part(bytes, at.pairs, pairs_end, pairs);
+    write_part(bytes, at.pairs, at.soft, pairs);
 }
 
 // As many soft values as `soft` has places, all in range, from a place of the record on.

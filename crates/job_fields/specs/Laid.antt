@@ -39,15 +39,19 @@ module _ {s : List ℕ} {at : Layout} (w : Laid s at) where
   pub map-within : at .map + mapBytes (at .n) ≤ length s
   map-within = omega (arith, w .map-begins, w .n-is, w .shaped .whole)
 
-  pub pairs-within : at .pairs + 4 * at .count ≤ length s
-  pairs-within = omega (arith, w .pairs-begin, w .count-is, w .shaped .whole)
+  pub pairs-first : at .pairs ≤ at .soft
+  pairs-first = omega (arith, w .pairs-begin, w .soft-begins)
+
+  pub pairs-within : at .soft ≤ length s
+  pairs-within = omega (arith, w .soft-begins, w .shaped .whole)
 
   pub map-part : take (at .map + mapBytes (at .n) - at .map) (drop (at .map) s) ≡ recordMap s
   map-part =
       let long : at .map + mapBytes (at .n) - at .map ≡ mapBytes (positions s) = omega (arith, w .n-is) in
       ap₂ (λ (k i : ℕ). take k (drop i s)) long (w .map-begins)
 
-  pub pairs-part : take (at .pairs + 4 * at .count - at .pairs) (drop (at .pairs) s) ≡ recordPairs s
-  pairs-part =
-      let long : at .pairs + 4 * at .count - at .pairs ≡ 4 * pairCount s = omega (arith, w .count-is) in
-      ap₂ (λ (k i : ℕ). take k (drop i s)) long (w .pairs-begin)
+  pub pairs-span : at .soft - at .pairs ≡ 4 * pairCount s
+  pairs-span = omega (arith, w .pairs-begin, w .soft-begins)
+
+  pub pairs-part : take (at .soft - at .pairs) (drop (at .pairs) s) ≡ recordPairs s
+  pairs-part = ap₂ (λ (k i : ℕ). take k (drop i s)) pairs-span (w .pairs-begin)

@@ -5,7 +5,8 @@ ghost use Prim.Native.Nat.{_+_, _≤_};
 ghost use Rattle.spec.specs.Code.{mapBytes};
 ghost use Rattle.spec.specs.Record.{stopAt, frameAt, mapAt};
 
-// The map of fields, m, n, the number of pairs, and where the frozen map, the pairs and the soft values begin.
+// The map of fields, m, n, the number of pairs, and where the frozen map, the pairs and the soft values begin. The pairs end where the soft
+// values begin.
 pub struct Layout {
     pub fields: u32,
     pub m: u32,

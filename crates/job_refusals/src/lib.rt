@@ -30,8 +30,8 @@ fn record_code_refusal(bytes: &[u8], at: Layout) -> u32
     let map = at.map;
     let map_end = map + (at.n + 7) / 8;
     let pairs = at.pairs;
-    let pairs_end = pairs + 4 * (at.count as usize);
-    code_refusal(at.m, &bytes[map..map_end], &bytes[pairs..pairs_end])
+    let soft = at.soft;
+    code_refusal(at.m, &bytes[map..map_end], &bytes[pairs..soft])
 }
 
 // Refusals 3, 15, 4 and 5, or 0.

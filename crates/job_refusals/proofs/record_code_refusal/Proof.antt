@@ -9,7 +9,7 @@ use Rattle.spec.specs.Faults.{first}
 use Rattle.spec.specs.Refusals.{codeFaults}
 use Rattle.spec.specs.Record.{exponent, recordMap, recordCode}
 use Rattle.laws.specs.FirstFault.{inside, same}
-use Rattle.job_fields.specs.Laid.{Shaped, length-map, map-within, pairs-within, map-part, pairs-part}
+use Rattle.job_fields.specs.Laid.{Shaped, length-map, map-within, pairs-first, pairs-within, map-part, pairs-part}
 use Rattle.job_refusals.specs.Conditions.{recordCodeFaults}
 use Rattle.job_refusals.proofs.record_code_refusal.Statement.{statement}
 use Rattle.job_refusals.proofs.record_code_refusal.Tie as tie
@@ -29,15 +29,6 @@ add-map-end c = search needs
 add-map-end-2 : tie.Need-add-map-end-2
 add-map-end-2 c = search needs
 
-cast-pairs-end : tie.Need-cast-pairs-end
-cast-pairs-end c = search needs
-
-mul-pairs-end : tie.Need-mul-pairs-end
-mul-pairs-end c = search needs
-
-add-pairs-end : tie.Need-add-pairs-end
-add-pairs-end c = search needs
-
 sub-code-refusal : tie.Need-sub-code-refusal
 sub-code-refusal c = search needs
 
@@ -45,23 +36,23 @@ part-code-refusal-start : tie.Need-part-code-refusal-start
 part-code-refusal-start c = search needs
 
 part-code-refusal-end : tie.Need-part-code-refusal-end
-part-code-refusal-end c = map-within (c .before .before .before .pre)
+part-code-refusal-end c = map-within (c .before .before .pre)
 
 sub-code-refusal-2 : tie.Need-sub-code-refusal-2
 sub-code-refusal-2 c = search needs
 
 part-code-refusal-start-2 : tie.Need-part-code-refusal-start-2
-part-code-refusal-start-2 c = search needs
+part-code-refusal-start-2 c = pairs-first (c .before .before .before .pre)
 
 part-code-refusal-end-2 : tie.Need-part-code-refusal-end-2
-part-code-refusal-end-2 c = pairs-within (c .before .before .before .before .pre)
+part-code-refusal-end-2 c = pairs-within (c .before .before .before .pre)
 
 code-refusal-requires : tie.Need-code-refusal-requires
 code-refusal-requires c κs = search needs
 
 returns : tie.Need-returns
 returns c =
-    let s = c .before .before .before .before .before .before in
+    let s = c .before .before .before .before .before in
     let w = s .pre in
     c .code-refusal .ensures ∙ same-code (w .m-is) (map-part w) (pairs-part w) ∙ left (s .args .bytes .now) (w .shaped)
 
@@ -71,9 +62,6 @@ record-code-refusal-spec =
     (tie.spec
     add-map-end
     add-map-end-2
-    cast-pairs-end
-    mul-pairs-end
-    add-pairs-end
     sub-code-refusal
     part-code-refusal-start
     part-code-refusal-end
