@@ -50,8 +50,17 @@ bench: $(OUT)/bench_codec $(OUT)/bench_decoder
 	$(OUT)/bench_decoder
 	bench/instructions_decoder $(OUT)/bench_decoder
 
+# The second encoder and extractor, the second decoder, and what draws codes.
+CODEC = tests/reference_codec.c tests/reference_transform.c
+PAPER = tests/paper_decoder.c tests/paper_score.c tests/arikan_score.c
+CODES = tests/pairs.c tests/draw.c $(CODEC)
+CODEC_HEADERS = tests/reference_codec.h tests/reference_transform.h
+PAPER_HEADERS = tests/paper_decoder.h tests/paper_score.h
+CODES_HEADERS = tests/pairs.h tests/draw.h $(CODEC_HEADERS)
+
 # Without the library: what the proved decoder must print owes it nothing.
-RECORDS = tests/make_records.c tests/paper_decoder.c tests/reference_codec.c tests/reference_job.c
+RECORDS = tests/make_records.c tests/reference_job.c $(PAPER) $(CODEC)
+RECORDS_HEADERS = tests/record_plan.h tests/reference_job.h $(PAPER_HEADERS) $(CODEC_HEADERS)
 
 stored-records: $(OUT)/make_records
 	$(OUT)/make_records records >crates/decode_records/stdin
@@ -79,20 +88,20 @@ $(HOSTS:%=$(OUT)/%): $(OUT)/%: examples/%.c include/caldurrex.h $(LIBRARY)
 	@mkdir -p $(OUT)
 	$(CC) $(CFLAGS) -pthread -Iinclude -o $@ $< $(LIBRARY)
 
-BENCH = bench/bench_codec.c tests/pairs.c tests/draw.c tests/reference_codec.c
+BENCH = bench/bench_codec.c $(CODES)
 
-$(OUT)/bench_codec: $(BENCH) include/caldurrex.h tests/pairs.h tests/draw.h tests/reference_codec.h $(LIBRARY)
+$(OUT)/bench_codec: $(BENCH) include/caldurrex.h $(CODES_HEADERS) $(LIBRARY)
 	@mkdir -p $(OUT)
 	$(CC) $(CFLAGS) -Iinclude -Itests -o $@ $(BENCH) $(LIBRARY)
 
-BENCH_DECODER = bench/bench_decoder.c bench/plain_decoder.c tests/pairs.c tests/draw.c tests/reference_codec.c
-BENCH_HEADERS = bench/plain_decoder.h bench/plain_tables.h include/caldurrex.h tests/pairs.h tests/draw.h tests/reference_codec.h
+BENCH_DECODER = bench/bench_decoder.c bench/plain_decoder.c $(CODES)
+BENCH_HEADERS = bench/plain_decoder.h bench/plain_tables.h include/caldurrex.h $(CODES_HEADERS)
 
 # The plain C decoder is compiled for speed, or the comparison would not be fair.
 $(OUT)/bench_decoder: $(BENCH_DECODER) $(BENCH_HEADERS) $(LIBRARY)
 	@mkdir -p $(OUT)
 	$(CC) $(CFLAGS) -O3 -Iinclude -Itests -o $@ $(BENCH_DECODER) $(LIBRARY)
 
-$(OUT)/make_records: $(RECORDS) tests/paper_decoder.h tests/record_plan.h tests/reference_codec.h tests/reference_job.h
+$(OUT)/make_records: $(RECORDS) $(RECORDS_HEADERS)
 	@mkdir -p $(OUT)
 	$(CC) $(CFLAGS) -Itests -o $@ $(RECORDS)

@@ -3,12 +3,13 @@
  * Half of the positions are frozen, those of lowest weight. Pairs, where there are some,
  * have any of these as f, and any position below it as e.
  *
- *   bench_decoder                   blocks a second of both, with and without pairs, and
- *                                   how the time grows
- *   bench_decoder ours|plain|both M L COUNT [PAIRS]
+ *   bench_decoder                   blocks a second of both, with and without pairs and by
+ *                                   Arikan's transform, and how the time grows
+ *   bench_decoder ours|plain|both M L COUNT [PAIRS [arikan]]
  *                                   COUNT blocks at n = 2^M and list size L, with so many
- *                                   pairs, and nothing printed: by one decoder, to be
- *                                   counted by a tool, or by both, each block compared
+ *                                   pairs, by the convolutional transform or Arikan's, and
+ *                                   nothing printed: by one decoder, to be counted by a
+ *                                   tool, or by both, each block compared
  */
 #include "caldurrex.h"
 #include "draw.h"
@@ -28,6 +29,7 @@ static const char *const decoder_name[DECODERS] = {"ours", "plain", "both"};
 /* A code, some received blocks, and a list size. */
 static struct {
     uint32_t m, l;
+    uint8_t arikan;
     size_t n;
     uint8_t map[MAX_N / 8];
     struct pairs pairs;
@@ -46,8 +48,8 @@ static struct memory memory[2]; /* one for each decoder */
 static void need(int ok, const char *what)
 {
     if (!ok) {
-        fprintf(stderr, "bench_decoder: %s at n = %zu, l = %u, %zu pairs\n", what, load.n, (unsigned)load.l,
-                pairs_count(&load.pairs));
+        fprintf(stderr, "bench_decoder: %s at n = %zu, l = %u, %zu pairs%s\n", what, load.n, (unsigned)load.l,
+                pairs_count(&load.pairs), load.arikan ? ", by Arikan's transform" : "");
         exit(1);
     }
 }
@@ -61,10 +63,11 @@ static uint32_t weight(size_t i)
 }
 
 /* The same blocks at every run. */
-static void make_load(uint32_t m, uint32_t l, size_t pairs)
+static void make_load(uint32_t m, uint32_t l, size_t pairs, uint8_t arikan)
 {
     memset(&load, 0, sizeof load);
     load.m = m;
+    load.arikan = arikan;
     load.l = l;
     load.n = (size_t)1 << m;
     size_t frozen = 0;
@@ -88,12 +91,12 @@ static struct caldurrex_decoded decode(enum decoder decoder, const int16_t *soft
     size_t n = load.n, l = load.l;
     if (decoder == PLAIN) {
         struct plain_decoded plain =
-            plain_decode((int)load.m, load.map, load.pairs.bytes, (int)pairs_count(&load.pairs), (int)l, (int)n, soft,
-                         lent->numbers, lent->bytes, lent->inputs, lent->words, lent->scores);
+            plain_decode((int)load.m, load.arikan, load.map, load.pairs.bytes, (int)pairs_count(&load.pairs), (int)l,
+                         (int)n, soft, lent->numbers, lent->bytes, lent->inputs, lent->words, lent->scores);
         return (struct caldurrex_decoded){0, (uint32_t)plain.rows, plain.ceiling};
     }
-    return caldurrex_decode(load.m, load.map, n / 8, load.pairs.bytes, load.pairs.len, load.l, (uint32_t)n, soft, n,
-                            lent->numbers, CALDURREX_NUMBERS(n, l), lent->bytes, CALDURREX_BYTES(n, l),
+    return caldurrex_decode(load.m, load.arikan, load.map, n / 8, load.pairs.bytes, load.pairs.len, load.l, (uint32_t)n,
+                            soft, n, lent->numbers, CALDURREX_NUMBERS(n, l), lent->bytes, CALDURREX_BYTES(n, l),
                             lent->inputs, CALDURREX_ROWS(n, l), lent->words, CALDURREX_ROWS(n, l), lent->scores, l);
 }
 
@@ -127,11 +130,11 @@ static void run(enum decoder decoder, unsigned long count)
 
 /* Seconds a block. By processor time, and the decoders in turn for a short while, so
  * that other work on the machine counts little and for both alike. */
-static void time_both(uint32_t m, uint32_t l, size_t pairs, double seconds[2])
+static void time_both(uint32_t m, uint32_t l, size_t pairs, uint8_t arikan, double seconds[2])
 {
     double spent[2] = {0, 0};
     unsigned long count = 1, done = 0;
-    make_load(m, l, pairs);
+    make_load(m, l, pairs, arikan);
     run(BOTH, 4);
     while (spent[OURS] < 0.3) {
         for (int decoder = OURS; decoder <= PLAIN; decoder++) {
@@ -150,20 +153,20 @@ static void time_both(uint32_t m, uint32_t l, size_t pairs, double seconds[2])
 static void print_growth(uint32_t m, uint32_t l)
 {
     double seconds[2], steps = (double)((size_t)1 << m) * m * l;
-    time_both(m, l, 0, seconds);
-    printf("n = %-4u l = %-2u       %10.0f %10.0f %18.1f\n", 1u << m, (unsigned)l, 1e6 * seconds[OURS],
+    time_both(m, l, 0, 0, seconds);
+    printf("n = %-4u l = %-2u        %10.0f %10.0f %18.1f\n", 1u << m, (unsigned)l, 1e6 * seconds[OURS],
            1e6 * seconds[PLAIN], 1e9 * seconds[OURS] / steps);
 }
 
-static void print_speed(uint32_t m, uint32_t l, size_t pairs)
+static void print_speed(uint32_t m, uint32_t l, size_t pairs, uint8_t arikan)
 {
     double seconds[2];
-    time_both(m, l, pairs, seconds);
+    time_both(m, l, pairs, arikan, seconds);
     printf("n = %-4u l = %-2u ", 1u << m, (unsigned)l);
     if (pairs == 0)
-        printf("     ");
+        printf("%-6s", arikan ? "arikan" : "");
     else
-        printf("p %-3zu", pairs);
+        printf("p %-4zu", pairs);
     printf(" %10.0f %10.0f %18.2f\n", 1 / seconds[OURS], 1 / seconds[PLAIN], seconds[PLAIN] / seconds[OURS]);
 }
 
@@ -171,13 +174,15 @@ static void time_all(void)
 {
     static const uint32_t sizes[3][2] = {{6, 4}, {8, 8}, {10, 32}};
     static const size_t pairs[3] = {16, 64, 256};
-    printf("blocks a second            ours    plain C    ours to plain C\n");
+    printf("blocks a second             ours    plain C    ours to plain C\n");
     for (size_t i = 0; i < 3; i++)
-        print_speed(sizes[i][0], sizes[i][1], 0);
+        print_speed(sizes[i][0], sizes[i][1], 0, 0);
+    for (size_t i = 0; i < 3; i++)
+        print_speed(sizes[i][0], sizes[i][1], 0, 1);
     printf("so with p pairs\n");
     for (size_t i = 0; i < 6; i++)
-        print_speed(sizes[1 + i / 3][0], sizes[1 + i / 3][1], pairs[i % 3]);
-    printf("microseconds a block       ours    plain C   ours, ns a unit of n log2(n) l\n");
+        print_speed(sizes[1 + i / 3][0], sizes[1 + i / 3][1], pairs[i % 3], 0);
+    printf("microseconds a block        ours    plain C   ours, ns a unit of n log2(n) l\n");
     for (uint32_t m = 6; m <= 10; m++)
         print_growth(m, 8);
     for (uint32_t l = 1; l <= MAX_LIST; l *= 2)
@@ -190,17 +195,18 @@ int main(int argc, char **argv)
         time_all();
         return 0;
     }
-    int decoder = 0, given = argc == 5 || argc == 6;
+    int decoder = 0, arikan = argc == 7 && strcmp(argv[6], "arikan") == 0;
+    int given = argc == 5 || argc == 6 || arikan;
     while (given && decoder < DECODERS && strcmp(argv[1], decoder_name[decoder]) != 0)
         decoder++;
     unsigned long m = given ? strtoul(argv[2], NULL, 10) : 0, l = given ? strtoul(argv[3], NULL, 10) : 0;
-    unsigned long pairs = argc == 6 ? strtoul(argv[5], NULL, 10) : 0;
+    unsigned long pairs = argc > 5 ? strtoul(argv[5], NULL, 10) : 0;
     if (decoder == DECODERS || m < 3 || m > 10 || l < 1 || l > MAX_LIST || pairs > PAIRS_MOST) {
         fprintf(stderr, "bench_decoder: give a decoder, m from 3, a list size, a count and, where there are some, the "
-                        "number of pairs; or nothing\n");
+                        "number of pairs, and then arikan for that transform; or nothing\n");
         return 1;
     }
-    make_load((uint32_t)m, (uint32_t)l, pairs);
+    make_load((uint32_t)m, (uint32_t)l, pairs, (uint8_t)arikan);
     run((enum decoder)decoder, strtoul(argv[4], NULL, 10));
     return 0;
 }

@@ -107,14 +107,27 @@ static void take(struct decoder *d, int position, const struct children *c)
     d->count = c->count;
 }
 
+/* The paths up to the stop position. */
+static void run(struct decoder *d, int arikan, const uint8_t *map, int stop, const int16_t *soft)
+{
+    start(d, arikan, soft);
+    for (int position = 0; position < stop; position++) {
+        struct children children;
+        split(d, position, map[position / 8] >> (position % 8) & 1, &children);
+        take(d, position, &children);
+        if (position + 1 < stop)
+            advance(d, arikan, d->m, position);
+    }
+}
+
 /* ---- rows */
 
-static void transform(uint8_t *c, int n)
+static void transform(uint8_t *c, int n, int arikan)
 {
     for (int stride = 1; stride < n; stride *= 2)
         for (int first = 0; first < stride; first++)
             for (int i = 0; i < n / stride; i += 2) {
-                uint8_t *u = c + first + i * stride, next = i + 2 < n / stride ? u[2 * stride] : 0;
+                uint8_t *u = c + first + i * stride, next = !arikan && i + 2 < n / stride ? u[2 * stride] : 0;
                 u[0] ^= u[stride] ^ next;
                 u[stride] ^= next;
             }
@@ -131,29 +144,25 @@ static void read_back(const struct decoder *d, int rank, int stop, uint8_t *inpu
     }
 }
 
-struct plain_decoded plain_decode(int m, const uint8_t *map, const uint8_t *pairs, int pair_count, int list_size,
-                                  int stop, const int16_t *soft, uint32_t *numbers, uint8_t *bytes, uint8_t *inputs,
-                                  uint8_t *words, int32_t *scores)
+struct plain_decoded plain_decode(int m, int arikan, const uint8_t *map, const uint8_t *pairs, int pair_count,
+                                  int list_size, int stop, const int16_t *soft, uint32_t *numbers, uint8_t *bytes,
+                                  uint8_t *inputs, uint8_t *words, int32_t *scores)
 {
     int n = 1 << m, l = list_size, magnitudes = 0;
-    struct decoder d = {.m = m, .n = n, .l = l, .count = 1, .windows = numbers, .bottom = numbers + 8 * n * l,
-                        .even = bytes, .sum = bytes + n * l / 2, .odd = bytes + n * l,
-                        .history = bytes + 3 * n * l / 2, .dropped = UINT32_MAX, .pairs = pairs,
-                        .pair_count = pair_count};
+    struct decoder d = {.m = m, .n = n, .l = l, .count = 1, .windows = numbers,
+                        .bottom = numbers + 8 * n * l, .even = bytes, .sum = bytes + n * l / 2,
+                        .odd = bytes + n * l, .history = bytes + 3 * n * l / 2, .dropped = UINT32_MAX,
+                        .pairs = pairs, .pair_count = pair_count};
     for (int i = 0; i < n; i++)
         magnitudes += abs(taken(soft[i]));
-    start(&d, soft);
-    for (int position = 0; position < stop; position++) {
-        struct children children;
-        split(&d, position, map[position / 8] >> (position % 8) & 1, &children);
-        take(&d, position, &children);
-        if (position + 1 < stop)
-            advance(&d, m, position);
-    }
+    if (arikan)
+        run(&d, 1, map, stop, soft);
+    else
+        run(&d, 0, map, stop, soft);
     for (int r = 0; r < d.count; r++) {
         read_back(&d, r, stop, inputs + r * n);
         memcpy(words + r * n, inputs + r * n, (size_t)n);
-        transform(words + r * n, n);
+        transform(words + r * n, n, arikan);
         scores[r] = magnitudes - 2 * (int32_t)d.cost[r]; /* the empty prefix costs 0 */
     }
     memset(numbers, 0, (size_t)32 * n * l * sizeof numbers[0]);

@@ -14,8 +14,8 @@ struct plain_decoded {
     int32_t ceiling;
 };
 
-struct plain_decoded plain_decode(int m, const uint8_t *map, const uint8_t *pairs, int pair_count, int list_size,
-                                  int stop, const int16_t *soft, uint32_t *numbers, uint8_t *bytes, uint8_t *inputs,
-                                  uint8_t *words, int32_t *scores);
+struct plain_decoded plain_decode(int m, int arikan, const uint8_t *map, const uint8_t *pairs, int pair_count,
+                                  int list_size, int stop, const int16_t *soft, uint32_t *numbers, uint8_t *bytes,
+                                  uint8_t *inputs, uint8_t *words, int32_t *scores);
 
 #endif

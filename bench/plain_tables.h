@@ -17,6 +17,10 @@
  * each node and path the tables hold a window, the costs of the 16 ways in which the
  * node's next four bits can go on, and the node's last bits.
  *
+ * Arikan's transform, too, can be taken apart at even and odd places: its a_i is
+ * u_2i + u_2i+1 and its b_i is u_2i+1, the rule of the convolutional one without the carry
+ * u_2i+2. So both are decoded alike, with a carry of 0 for Arikan's and of 1 for the other.
+ *
  * All paths stand at the same position. Where a layer is due, it is written anew for
  * every path, that of rank r in slot r, from the layer below; a path names the slots
  * that hold what is its own. So a split copies slot numbers and no windows. Slot s of
@@ -66,15 +70,24 @@ static void read_window(const uint32_t *window, int phase, uint8_t odd, uint32_t
 
 /* The window over bits 2j+1 to 2j+4 of a node whose bits 0 to 2j are decided, the last
  * being e. */
-static void combine(const uint32_t a[8], const uint32_t b[8], uint8_t e, uint32_t out[16])
+static inline void combine_by(int carry, const uint32_t a[8], const uint32_t b[8], uint8_t e, uint32_t out[16])
 {
     for (int x = 0; x < 16; x++) {
         int x1 = x & 1, x2 = x >> 1 & 1, x3 = x >> 2 & 1, x4 = x >> 3;
-        int b0 = x1 ^ x2, b1 = x3 ^ x4, a0 = e ^ b0, a1 = x2 ^ b1;
+        int b0 = x1 ^ (x2 & carry), b1 = x3 ^ (x4 & carry), a0 = e ^ b0, a1 = x2 ^ b1;
         uint32_t zero = a[a0 | a1 << 1 | x4 << 2] + b[b0 | b1 << 1];
         uint32_t one = a[a0 | a1 << 1 | (x4 ^ 1) << 2] + b[b0 | b1 << 1 | 4];
         out[x] = least(zero, one);
     }
+}
+
+/* The compiler makes a loop of its own for each carry. */
+static void combine(int arikan, const uint32_t a[8], const uint32_t b[8], uint8_t e, uint32_t out[16])
+{
+    if (arikan)
+        combine_by(0, a, b, e, out);
+    else
+        combine_by(1, a, b, e, out);
 }
 
 /* The bits of a window from a place on that lie inside a word of len bits, as a mask. */
@@ -101,9 +114,9 @@ static int taken(int y)
     return y == -2048 ? -2047 : y;
 }
 
-static void start_bottom(struct decoder *d, const int16_t *soft)
+static void start_bottom(struct decoder *d, int arikan, const int16_t *soft)
 {
-    int quarter = d->n / 4;
+    int quarter = d->n / 4, carry = !arikan;
     for (int i = 0; i < quarter; i++) {
         uint32_t cost[4][2];
         for (int k = 0; k < 4; k++) {
@@ -113,22 +126,23 @@ static void start_bottom(struct decoder *d, const int16_t *soft)
         }
         for (int u = 0; u < 16; u++) {
             int u0 = u & 1, u1 = u >> 1 & 1, u2 = u >> 2 & 1, u3 = u >> 3;
-            d->bottom[16 * i + u] = cost[0][u0 ^ u1 ^ u3] + cost[1][u1 ^ u2 ^ u3] + cost[2][u2 ^ u3] + cost[3][u3];
+            int first = u0 ^ u1 ^ u3 ^ (carry ? 0 : u2), second = u1 ^ u3 ^ (carry ? u2 : 0);
+            d->bottom[16 * i + u] = cost[0][first] + cost[1][second] + cost[2][u2 ^ u3] + cost[3][u3];
         }
     }
     memcpy(d->windows + 16 * nodes_at(d, 2, 0), d->bottom, 64 * (size_t)quarter);
 }
 
-static void start(struct decoder *d, const int16_t *soft)
+static void start(struct decoder *d, int arikan, const int16_t *soft)
 {
-    start_bottom(d, soft);
+    start_bottom(d, arikan, soft);
     for (int layer = 3; layer <= d->m; layer++) {
         uint32_t *windows = d->windows + 16 * nodes_at(d, layer, 0);
         for (int i = 0; i < 1 << (d->m - layer); i++) {
             uint32_t a[8], b[8], first[2][16];
             read_children(d, layer, 0, i, 0, a, b);
-            combine(a, b, 0, first[0]);
-            combine(a, b, 1, first[1]);
+            combine(arikan, a, b, 0, first[0]);
+            combine(arikan, a, b, 1, first[1]);
             for (int x = 0; x < 16; x++)
                 windows[16 * i + x] = least(first[x & 1][x >> 1], first[x & 1][x >> 1 | 8]);
         }
@@ -138,7 +152,7 @@ static void start(struct decoder *d, const int16_t *soft)
 /* ---- one more bit */
 
 /* Path r's windows of a layer, once its nodes' bit 2j is decided, into slot r. */
-static void recompute(struct decoder *d, int layer, int r, int j)
+static void recompute(struct decoder *d, int arikan, int layer, int r, int j)
 {
     int W = 1 << (d->m - layer), mask = inside(2 * j + 1, 1 << layer);
     uint32_t *windows = d->windows + 16 * nodes_at(d, layer, r);
@@ -153,7 +167,7 @@ static void recompute(struct decoder *d, int layer, int r, int j)
         } else {
             uint32_t a[8], b[8], all[16];
             read_children(d, layer, r, i, j, a, b);
-            combine(a, b, even[i], all);
+            combine(arikan, a, b, even[i], all);
             for (int x = 0; x < 16; x++)
                 windows[16 * i + x] = all[x & mask];
         }
@@ -161,24 +175,25 @@ static void recompute(struct decoder *d, int layer, int r, int j)
 }
 
 /* The bits that the children's words get at place `below`, by the transform's rule. */
-static void pass_down(struct decoder *d, int layer, int below)
+static void pass_down(struct decoder *d, int arikan, int layer, int below)
 {
     int W = 1 << (d->m - layer);
+    uint8_t carry = !arikan;
     for (int r = 0; r < d->count; r++) {
         const uint8_t *even = d->even + nodes_at(d, layer, r);
         const uint8_t *sum = d->sum + nodes_at(d, layer, d->odd_slot[layer][r]);
         const uint8_t *odd = d->odd + nodes_at(d, layer, d->odd_slot[layer][r]);
         uint8_t *to = (below % 2 == 1 ? d->odd : d->even) + nodes_at(d, layer - 1, r);
         for (int i = 0; i < W; i++) {
-            to[i] = sum[i] ^ even[i];
-            to[i + W] = odd[i] ^ even[i];
+            to[i] = sum[i] ^ (even[i] & carry);
+            to[i + W] = odd[i] ^ (even[i] & carry);
         }
     }
 }
 
 /* The nodes of a layer have got their bit at `place`, for path r in slot r. Windows
  * are due at even places only: at odd ones they hold the next bit already. */
-static void advance(struct decoder *d, int layer, int place)
+static void advance(struct decoder *d, int arikan, int layer, int place)
 {
     int W = 1 << (d->m - layer), j = place / 2;
     if (place % 2 == 1) {
@@ -192,11 +207,11 @@ static void advance(struct decoder *d, int layer, int place)
         return;
     }
     if (j >= 1 && layer > 2) {
-        pass_down(d, layer, j - 1);
-        advance(d, layer - 1, j - 1);
+        pass_down(d, arikan, layer, j - 1);
+        advance(d, arikan, layer - 1, j - 1);
     }
     for (int r = 0; r < d->count; r++)
-        recompute(d, layer, r, j);
+        recompute(d, arikan, layer, r, j);
     for (int r = 0; r < d->count; r++)
         d->window_slot[layer][r] = (uint8_t)r;
 }

@@ -25,6 +25,9 @@ static int32_t scores[LIST];
 /* Neither code has pairs: an empty slice, whose pointer is not null. */
 static const uint8_t no_pairs[1];
 
+/* The transform of both codes: 0 is the convolutional one, any other byte asks for Arikan's. */
+static const uint8_t arikan = 0;
+
 /* A code and what was received. */
 struct block {
     uint8_t map[1]; /* bit i is 1 where position i is frozen */
@@ -34,7 +37,7 @@ struct block {
 /* Lengths are numbers of elements, not of bytes. */
 static struct caldurrex_decoded decode(const struct block *block, uint32_t list_size)
 {
-    return caldurrex_decode(M, block->map, sizeof block->map, no_pairs, 0, list_size, N, block->soft, N,
+    return caldurrex_decode(M, arikan, block->map, sizeof block->map, no_pairs, 0, list_size, N, block->soft, N,
                             numbers, sizeof numbers / sizeof numbers[0], bytes, sizeof bytes,
                             inputs, sizeof inputs, words, sizeof words, scores, LIST);
 }

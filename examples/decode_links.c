@@ -22,6 +22,9 @@ enum { THREADS = 4, LINKS = 12, ROUNDS = 6, MAX_N = 1024, MAX_LIST = 32 };
 /* No code here has pairs: an empty slice, whose pointer is not null. */
 static const uint8_t no_pairs[1];
 
+/* The transform of all codes: 0 is the convolutional one, any other byte asks for Arikan's. */
+static const uint8_t arikan = 0;
+
 /* A code, a list size, and a state from which payloads and noise are drawn. */
 struct link {
     uint32_t m, list_size;
@@ -77,7 +80,7 @@ static int receive(struct link *link, uint8_t *payload, int16_t *soft)
     uint8_t word[MAX_N];
     for (size_t i = 0; i < link->k; i++)
         payload[i] = draw(link) >> 16 & 1;
-    if (caldurrex_encode(link->m, link->map, map_len(link), no_pairs, 0, payload, link->k, word, link->n) != 0)
+    if (caldurrex_encode(link->m, arikan, link->map, map_len(link), no_pairs, 0, payload, link->k, word, link->n) != 0)
         return 0;
     for (size_t i = 0; i < link->n; i++)
         soft[i] = (int16_t)((word[i] ? -20 : 20) + (int)(draw(link) % 61) - 30);
@@ -136,7 +139,7 @@ static void free_memory(struct memory *lent)
 
 static struct caldurrex_decoded decode(const struct link *link, const int16_t *soft, const struct memory *lent)
 {
-    return caldurrex_decode(link->m, link->map, map_len(link), no_pairs, 0, link->list_size, (uint32_t)link->n,
+    return caldurrex_decode(link->m, arikan, link->map, map_len(link), no_pairs, 0, link->list_size, (uint32_t)link->n,
                             soft, link->n, lent->numbers, lent->numbers_len, lent->bytes, lent->bytes_len,
                             lent->inputs, lent->rows_len, lent->words, lent->rows_len,
                             lent->scores, lent->scores_len);

@@ -22,6 +22,7 @@ static int32_t scores[LIST];
 
 static const uint8_t map[1] = {0x17}; /* positions 0, 1, 2 and 4 are frozen */
 static const uint8_t no_pairs[1];     /* an empty slice, too, has a pointer that is not null */
+static const uint8_t arikan = 0;      /* the convolutional transform; any other byte asks for Arikan's */
 static const int16_t soft[N] = {-9, 9, -3, -9, -9, 2, 9, -9};
 
 /* One past the last frozen position; 0 if none is frozen. */
@@ -37,7 +38,7 @@ static uint32_t past_frozen(void)
 static int show_at(uint32_t stop)
 {
     struct caldurrex_decoded answer =
-        caldurrex_decode(M, map, sizeof map, no_pairs, 0, LIST, stop, soft, N,
+        caldurrex_decode(M, arikan, map, sizeof map, no_pairs, 0, LIST, stop, soft, N,
                          numbers, sizeof numbers / sizeof numbers[0], bytes, sizeof bytes,
                          inputs, sizeof inputs, words, sizeof words, scores, LIST);
     if (answer.refusal != 0)

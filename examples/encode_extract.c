@@ -9,6 +9,9 @@
 
 #include <stdio.h>
 
+/* The transform of all codes: 0 is the convolutional one, any other byte asks for Arikan's. */
+static const uint8_t arikan = 0;
+
 /* A code: n = 2^m positions, the frozen ones among them, and the pairs. */
 struct code {
     uint32_t m;
@@ -78,8 +81,8 @@ static const char *reason(uint32_t refusal)
 /* Encodes the payload into word, which has room for n bytes. */
 static uint32_t encode(const struct code *code, const uint8_t *payload, uint8_t *word)
 {
-    uint32_t refusal = caldurrex_encode(code->m, code->map, map_len(code), code->pairs, code->pairs_len, payload,
-                                        code->k, word, code->n);
+    uint32_t refusal = caldurrex_encode(code->m, arikan, code->map, map_len(code), code->pairs, code->pairs_len,
+                                        payload, code->k, word, code->n);
     print_bits("  encode  payload", payload, code->k);
     if (refusal == 0)
         print_bits(" gives word", word, code->n);
@@ -92,8 +95,8 @@ static uint32_t encode(const struct code *code, const uint8_t *payload, uint8_t 
 /* Extracts the word's payload, which has room for k bytes. */
 static uint32_t extract(const struct code *code, const uint8_t *word, uint8_t *payload)
 {
-    uint32_t refusal = caldurrex_extract(code->m, code->map, map_len(code), code->pairs, code->pairs_len, word,
-                                         code->n, payload, code->k);
+    uint32_t refusal = caldurrex_extract(code->m, arikan, code->map, map_len(code), code->pairs, code->pairs_len,
+                                         word, code->n, payload, code->k);
     print_bits("  extract word", word, code->n);
     if (refusal == 0)
         print_bits(" gives payload", payload, code->k);

@@ -41,6 +41,12 @@ static const uint8_t paired[] = {
     0x05, 0x00, 0xfd, 0xff, 0x02, 0x00, 0x07, 0x00, /* soft values 5 -3 2 7 */
 };
 
+static const uint8_t plain[] = {
+    0x11,                                           /* the list size is present, and Arikan's transform is asked for */
+    0x02, 0x02, 0x03,                               /* the rest as in the sample */
+    0x05, 0x00, 0xfd, 0xff, 0x02, 0x00, 0x07, 0x00,
+};
+
 static void print_bits(const char *name, const uint8_t *bits, size_t n)
 {
     printf(" %s ", name);
@@ -50,12 +56,14 @@ static void print_bits(const char *name, const uint8_t *bits, size_t n)
 
 /* Decodes the record that was read last, and prints the rows, best first; the refusal.
  * The reader has set all of its three outputs; the decoder takes as much of them as the
- * code needs, four bytes for each pair. */
+ * code needs, four bytes for each pair. The transform, too, is the one that the record asks
+ * for. */
 static uint32_t decode(const struct caldurrex_job *job)
 {
     size_t n = (size_t)1 << job->m;
     struct caldurrex_decoded answer =
-        caldurrex_decode(job->m, map, (n + 7) / 8, pairs, 4 * (size_t)job->pairs, job->list_size, job->stop, soft, n,
+        caldurrex_decode(job->m, (uint8_t)job->arikan, map, (n + 7) / 8, pairs, 4 * (size_t)job->pairs,
+                         job->list_size, job->stop, soft, n,
                          numbers, sizeof numbers / sizeof numbers[0], bytes, sizeof bytes,
                          inputs, sizeof inputs, words, sizeof words, scores, LIST);
     for (uint32_t r = 0; r < answer.rows; r++) {
@@ -77,14 +85,14 @@ static uint32_t show(const uint8_t *record, size_t len)
         printf(" is refused with %u\n", (unsigned)job.refusal);
         return job.refusal;
     }
-    printf(": m %u, list size %u, stop %u, frame %u, pairs %u\n", (unsigned)job.m, (unsigned)job.list_size,
-           (unsigned)job.stop, (unsigned)job.frame, (unsigned)job.pairs);
+    printf(": m %u, list size %u, stop %u, frame %u, pairs %u, arikan %u\n", (unsigned)job.m, (unsigned)job.list_size,
+           (unsigned)job.stop, (unsigned)job.frame, (unsigned)job.pairs, (unsigned)job.arikan);
     return decode(&job);
 }
 
 int main(void)
 {
-    if (show(sample, sizeof sample) != 0 || show(paired, sizeof paired) != 0)
+    if (show(sample, sizeof sample) != 0 || show(paired, sizeof paired) != 0 || show(plain, sizeof plain) != 0)
         return 1;
     /* A record must be exactly as long as its fields need. */
     return show(sample, sizeof sample - 1) == CALDURREX_BAD_RECORD_LENGTH ? 0 : 1;

@@ -1,6 +1,6 @@
 /*
- * Caldurrex: encoder, extractor and list decoder for convolutional polar codes, and a
- * reader of job records.
+ * Caldurrex: encoder, extractor and list decoder for convolutional polar codes and for
+ * plain ones, by Arikan's transform, and a reader of job records.
  *
  * A code has n = 2^m positions, m from 2 to 10, and a frozen map of ceil(n/8)
  * bytes: bit i mod 8 of byte i div 8, counted from the low end, is 1 where
@@ -13,6 +13,12 @@
  * be frozen too. In memory a pair is four bytes: f, then e, each two bytes with the
  * low byte first. Pairs follow one another with nothing in front; a code without any
  * passes an empty slice.
+ *
+ * The transform is part of the code: arikan is 0 for the convolutional one, and any other
+ * byte asks for Arikan's. By Arikan's the halves v and w of an input give the transform of
+ * v + w, then that of w; a word of length 1 is itself. With n = 4 the input 0010 gives 0110
+ * by the convolutional transform and 1010 by Arikan's. Refusals and lengths are the same for
+ * both.
  *
  * The input of the transform has the payload bits at the positions that are not
  * frozen, in rising order, and at each frozen one the bit that its pairs give. The
@@ -51,13 +57,14 @@ enum caldurrex_refusal {
     CALDURREX_NOT_A_BIT = 11,         /* payload or word byte above 1 */
     CALDURREX_NOT_A_CODE_WORD = 12,   /* a frozen input bit of the word breaks its rule */
     CALDURREX_BAD_RECORD_LENGTH = 13, /* record not as long as its fields need */
-    CALDURREX_BAD_FIELD_MAP = 14,     /* bits 4 to 7 of a record's first byte not 0 */
+    CALDURREX_BAD_FIELD_MAP = 14,     /* bits 5 to 7 of a record's first byte not 0 */
     CALDURREX_BAD_PAIRS = 15          /* a wrong pair, a part of a pair, or above 256 of them */
 };
 
 /*
  * Encodes a payload.
  *
+ *   arikan   0 for the convolutional transform, any other byte for Arikan's
  *   map      the frozen map, ceil(n/8) bytes
  *   pairs    four bytes a pair
  *   payload  k bytes
@@ -78,7 +85,7 @@ enum caldurrex_refusal {
  *
  * A refused call writes nowhere.
  */
-uint32_t caldurrex_encode(uint32_t m, const uint8_t *map, size_t map_len,
+uint32_t caldurrex_encode(uint32_t m, uint8_t arikan, const uint8_t *map, size_t map_len,
                           const uint8_t *pairs, size_t pairs_len,
                           const uint8_t *payload, size_t payload_len,
                           uint8_t *word, size_t word_len);
@@ -86,6 +93,7 @@ uint32_t caldurrex_encode(uint32_t m, const uint8_t *map, size_t map_len,
 /*
  * Extracts the payload of a code word.
  *
+ *   arikan   0 for the convolutional transform, any other byte for Arikan's
  *   map      the frozen map, ceil(n/8) bytes
  *   pairs    four bytes a pair
  *   word     n bytes
@@ -106,7 +114,7 @@ uint32_t caldurrex_encode(uint32_t m, const uint8_t *map, size_t map_len,
  *
  * A refused call writes nowhere.
  */
-uint32_t caldurrex_extract(uint32_t m, const uint8_t *map, size_t map_len,
+uint32_t caldurrex_extract(uint32_t m, uint8_t arikan, const uint8_t *map, size_t map_len,
                            const uint8_t *pairs, size_t pairs_len,
                            const uint8_t *word, size_t word_len,
                            uint8_t *payload, size_t payload_len);
@@ -139,6 +147,7 @@ struct caldurrex_decoded {
  * where two differ. After stop positions the list in this order is the result, rank 0
  * first.
  *
+ *   arikan     0 for the convolutional transform, any other byte for Arikan's
  *   map        the frozen map, ceil(n/8) bytes
  *   pairs      four bytes a pair
  *   list_size  l, 1 to 32
@@ -158,8 +167,8 @@ struct caldurrex_decoded {
  * the outputs hold before the call does not matter.
  *
  * Once stop is past every frozen position, the first row is known early: its input
- * bytes below stop and scores[0] are those of the first row at stop n, for the same
- * m, map, pairs, list_size and soft. A display can decode with stop at the last frozen
+ * bytes below stop and scores[0] are those of the first row at stop n, for the same m,
+ * arikan, map, pairs, list_size and soft. A display can decode with stop at the last frozen
  * position + 1, show these, and decode on with a larger stop: what it has shown stays.
  * The input bytes from stop on, the word and the other rows are not known before n.
  *
@@ -190,7 +199,8 @@ struct caldurrex_decoded {
  *
  * A refused call writes nowhere.
  */
-struct caldurrex_decoded caldurrex_decode(uint32_t m, const uint8_t *map, size_t map_len,
+struct caldurrex_decoded caldurrex_decode(uint32_t m, uint8_t arikan,
+                                          const uint8_t *map, size_t map_len,
                                           const uint8_t *pairs, size_t pairs_len,
                                           uint32_t list_size, uint32_t stop,
                                           const int16_t *soft, size_t soft_len,
@@ -200,10 +210,11 @@ struct caldurrex_decoded caldurrex_decode(uint32_t m, const uint8_t *map, size_t
                                           uint8_t *words, size_t words_len,
                                           int32_t *scores, size_t scores_len);
 
-/* What a record says; pairs is the number of its pairs. refusal is 0 if it was read; else
- * it is the number of the refusal, and the other five are 0. */
+/* What a record says; pairs is the number of its pairs, and arikan is 1 if it asks for
+ * Arikan's transform, else 0. refusal is 0 if it was read; else it is the number of the
+ * refusal, and the other six are 0. */
 struct caldurrex_job {
-    uint32_t refusal, m, list_size, stop, frame, pairs;
+    uint32_t refusal, m, list_size, stop, frame, pairs, arikan;
 };
 
 /*
@@ -214,7 +225,7 @@ struct caldurrex_job {
  *
  *   1 byte           which of the four fields below are present: bit 0 the list size,
  *                    bit 1 the stop position, bit 2 the frame number, bit 3 the pairs;
- *                    bits 4 to 7 are 0
+ *                    bit 4 is no field: it is 1 for Arikan's transform; bits 5 to 7 are 0
  *   1 byte           m, 2 to 10
  *   1 byte           list size, 1 to 32; only if bit 0 is 1, else the list size is 4
  *   2 bytes          stop position, 0 to n; only if bit 1 is 1, else it is n
@@ -235,14 +246,14 @@ struct caldurrex_job {
  *           behind them up to pairs_len becomes 0
  *
  * The calls on a code take the map, the soft values and the pairs at their exact
- * lengths, ceil(n/8), n and four times the number of pairs. 128 bytes, 1024 numbers
- * and 1024 bytes are enough for every record. What a record that was read says is
- * accepted by caldurrex_decode wherever it is lent enough.
+ * lengths, ceil(n/8), n and four times the number of pairs, and arikan as it is here. 128
+ * bytes, 1024 numbers and 1024 bytes are enough for every record. What a record that was
+ * read says is accepted by caldurrex_decode wherever it is lent enough.
  *
  * The answer's refusal is 0, or the first of these that applies, in this order:
  *
  *   13  CALDURREX_BAD_RECORD_LENGTH  record_len is 0
- *   14  CALDURREX_BAD_FIELD_MAP      one of bits 4 to 7 of the first byte is 1
+ *   14  CALDURREX_BAD_FIELD_MAP      one of bits 5 to 7 of the first byte is 1
  *   13  CALDURREX_BAD_RECORD_LENGTH  record_len is 1
  *   1   CALDURREX_BAD_M              m outside 2..10
  *   13  CALDURREX_BAD_RECORD_LENGTH  the record ends before or inside the number of pairs

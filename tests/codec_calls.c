@@ -26,6 +26,7 @@ static void set_frozen(struct call *c, size_t i, int frozen)
 void call_freeze(struct call *c, uint32_t m, enum frozen frozen)
 {
     c->m = m;
+    c->arikan = draw_flag(draw_below(2) == 0);
     size_t n = size_of(c);
     c->map_len = (n + 7) / 8;
     draw_bytes(c->map, CALL_ROOM);
@@ -63,7 +64,7 @@ void call_fill(struct call *c, enum call_kind kind)
     if (kind == EXTRACT) { /* the bits drawn are the payload of the word */
         uint8_t u[REFERENCE_MAX_N];
         reference_input(n, c->map, c->pairs.bytes, c->pairs.len, c->in, u);
-        reference_transform(n, u, c->in);
+        reference_transform(n, c->arikan, u, c->in);
     }
     size_t beyond[4] = {0, 1, draw_below(16), draw_below(2 * n)};
     c->out_len = call_need(c) + beyond[draw_below(4)];
@@ -123,7 +124,7 @@ static void add_input(struct call *c, const uint8_t *u)
 {
     size_t n = size_of(c);
     uint8_t part[REFERENCE_MAX_N];
-    reference_transform(n, u, part);
+    reference_transform(n, c->arikan, u, part);
     for (size_t j = 0; j < n; j++)
         c->in[j] ^= part[j];
 }

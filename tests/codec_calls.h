@@ -19,6 +19,7 @@ enum { CALL_ROOM = 4096 };
 struct call {
     enum call_kind kind;
     uint32_t m;
+    uint8_t arikan;         /* 0, or any other byte for yes */
     uint8_t map[CALL_ROOM]; /* filled to its end, so that any length is a slice */
     size_t map_len;
     struct pairs pairs;
@@ -31,15 +32,15 @@ struct call {
 /* The refusals of a call, first one first, as the rules have them; 0 ends the row. */
 extern const uint32_t call_order[CALL_KINDS][9];
 
-/* A frozen map for n = 2^m, and no pairs. FROZEN_SOME leaves at least one position of
- * each kind. */
+/* A code of n = 2^m positions: either transform, a frozen map, and no pairs. FROZEN_SOME
+ * leaves at least one position of each kind. */
 void call_freeze(struct call *c, uint32_t m, enum frozen frozen);
 
 /* Pairs for c's m and map. */
 void call_pair(struct call *c, enum pair_kind kind);
 
-/* Makes a call that is served out of c's m, map and pairs. The output has the length
- * needed or is longer. */
+/* Makes a call that is served out of c's m, transform, map and pairs. The output has the
+ * length needed or is longer. */
 void call_fill(struct call *c, enum call_kind kind);
 
 /* All three, with pairs of any kind. */

@@ -24,13 +24,20 @@ enum { NO_PAIRS, SOME_PAIRS, FULL_PAIRS, SUM_OF_1, EVENTS };
 
 static struct lent map, pairs, in, out;
 static const struct call *under_way;
-static unsigned long seed, calls, tally[CALL_KINDS][MAX_M + 1][ANSWERS], events[CALL_KINDS][MAX_M + 1][EVENTS];
+static unsigned long seed, calls, arikan_calls;
+
+/* What came at some m, by one transform. */
+struct count {
+    unsigned long answers[ANSWERS], events[EVENTS];
+};
+static struct count counts[CALL_KINDS][MAX_M + 1][2]; /* by the convolutional transform, by Arikan's */
+static unsigned long other_yes[CALL_KINDS][MAX_M + 1]; /* accepted, with a byte above 1 for Arikan's */
 
 void check_fail(const struct call *c, const char *what)
 {
     printf("compare_codec: %s: %s\n", kind_name[c->kind], what);
-    printf("  m %lu, map of %zu bytes, pairs of %zu, input of %zu, output of %zu\n  map ", (unsigned long)c->m,
-           c->map_len, c->pairs.len, c->in_len, c->out_len);
+    printf("  m %lu, arikan %u, map of %zu bytes, pairs of %zu, input of %zu, output of %zu\n  map ",
+           (unsigned long)c->m, c->arikan, c->map_len, c->pairs.len, c->in_len, c->out_len);
     for (size_t i = 0; i < c->map_len && i < 128; i++)
         printf("%02x", c->map[i]);
     printf("\n  pairs");
@@ -69,7 +76,7 @@ static void judge(const struct call *c, uint32_t answer)
     static uint8_t want[CALL_ROOM];
     memcpy(want, out.before + (out.at - out.room), out.len);
     uint32_t right = (c->kind == ENCODE ? reference_encode : reference_extract)(
-        c->m, c->map, c->map_len, c->pairs.bytes, c->pairs.len, c->in, c->in_len, want, c->out_len);
+        c->m, c->arikan, c->map, c->map_len, c->pairs.bytes, c->pairs.len, c->in, c->in_len, want, c->out_len);
     if (answer != right || answer != c->answer) {
         char what[96];
         snprintf(what, sizeof what, "answer %lu, by construction %lu, by the reference %lu",
@@ -87,9 +94,10 @@ static void judge(const struct call *c, uint32_t answer)
 static void tally_accepted(const struct call *c)
 {
     size_t n = (size_t)1 << c->m;
-    unsigned long *met = events[c->kind][c->m];
+    unsigned long *met = counts[c->kind][c->m][c->arikan != 0].events;
     uint8_t u[REFERENCE_MAX_N];
     int ones = 0;
+    other_yes[c->kind][c->m] += c->arikan > 1;
     met[c->pairs.len == 0 ? NO_PAIRS : SOME_PAIRS]++;
     if (c->pairs.len == 0)
         return;
@@ -107,12 +115,13 @@ void check_call(const struct call *c, uint32_t sizes_of)
     lent_place(&in, c->in, c->in_len);
     lent_place(&out, NULL, c->out_len);
     calls++;
+    arikan_calls += c->arikan != 0;
     under_way = c;
     uint32_t answer = (c->kind == ENCODE ? caldurrex_encode : caldurrex_extract)(
-        c->m, map.at, map.len, pairs.at, pairs.len, in.at, in.len, out.at, out.len);
+        c->m, c->arikan, map.at, map.len, pairs.at, pairs.len, in.at, in.len, out.at, out.len);
     under_way = NULL;
     judge(c, answer);
-    tally[c->kind][sizes_of][answer]++;
+    counts[c->kind][sizes_of][c->arikan != 0].answers[answer]++;
     if (answer == 0)
         tally_accepted(c);
 }
@@ -133,35 +142,48 @@ unsigned long check_count(void)
     return calls;
 }
 
-static int print_row(enum call_kind kind, uint32_t m)
+unsigned long check_arikan_count(void)
 {
-    static const uint32_t columns[] = {0, 1, 2, 3, 15, 6, 10, 11, 12};
-    int reached = tally[kind][m][0] > 0;
+    return arikan_calls;
+}
+
+static int reached_all(enum call_kind kind, uint32_t m, const struct count *count)
+{
+    int reached = count->answers[0] > 0;
     for (size_t j = 0; call_order[kind][j] != 0; j++) {
         uint32_t number = call_order[kind][j];
         int possible = number != 3 || m == 2; /* only n = 4 leaves map bits past n */
-        reached &= !possible || tally[kind][m][number] > 0;
+        reached &= !possible || count->answers[number] > 0;
     }
+    for (size_t event = 0; event < EVENTS; event++)
+        reached &= count->events[event] > 0;
+    return reached;
+}
+
+/* Of both transforms together, but for the last two columns. */
+static int print_row(enum call_kind kind, uint32_t m)
+{
+    static const uint32_t columns[] = {0, 1, 2, 3, 15, 6, 10, 11, 12};
+    const struct count *x = &counts[kind][m][0], *y = &counts[kind][m][1];
+    int reached = reached_all(kind, m, x) && reached_all(kind, m, y) && other_yes[kind][m] > 0;
     printf("%-7s %2lu", kind_name[kind], (unsigned long)m);
     for (size_t j = 0; j < sizeof columns / sizeof columns[0]; j++)
-        printf(j == 0 ? " %9lu" : " %6lu", tally[kind][m][columns[j]]);
-    for (size_t event = 0; event < EVENTS; event++) {
-        printf(" %6lu", events[kind][m][event]);
-        reached &= events[kind][m][event] > 0;
-    }
-    printf("%s\n", reached ? "" : "  NOT ALL REACHED");
+        printf(j == 0 ? " %9lu" : " %6lu", x->answers[columns[j]] + y->answers[columns[j]]);
+    for (size_t event = 0; event < EVENTS; event++)
+        printf(" %6lu", x->events[event] + y->events[event]);
+    printf(" %6lu %6lu%s\n", y->answers[0], other_yes[kind][m], reached ? "" : "  NOT ALL REACHED");
     return reached;
 }
 
 int check_report(void)
 {
     int reached = 1;
-    printf("%-7s %2s %9s %6s %6s %6s %6s %6s %6s %6s %6s %6s %6s %6s %6s\n", "call", "m", "accepted", "1", "2", "3",
-           "15", "6", "10", "11", "12", "none", "pairs", "full", "sums");
+    printf("%-7s %2s %9s %6s %6s %6s %6s %6s %6s %6s %6s %6s %6s %6s %6s %6s %6s\n", "call", "m", "accepted", "1", "2",
+           "3", "15", "6", "10", "11", "12", "none", "pairs", "full", "sums", "arikan", "other");
     for (int kind = 0; kind < CALL_KINDS; kind++)
         for (uint32_t m = MIN_M; m <= MAX_M; m++)
             reached &= print_row((enum call_kind)kind, m);
-    printf("accepted: with no pairs, with some, with 256 or all that can be (full), with a 1 at a frozen position "
-           "(sums)\n");
+    printf("accepted: with no pairs, with some, with 256 or all that can be (full), with a 1 at a frozen position\n"
+           "(sums); by Arikan's transform, and those of them that ask for it by another byte than 1 (other)\n");
     return reached;
 }

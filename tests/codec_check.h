@@ -27,11 +27,15 @@ const uint8_t *check_output(void);
 /* Prints the call and what is wrong with it, and ends the program. */
 void check_fail(const struct call *c, const char *what);
 
+/* All calls, and those by Arikan's transform. */
 unsigned long check_count(void);
+unsigned long check_arikan_count(void);
 
-/* Prints how often each answer came. Gives 0 if, at some m, a refusal that it can
- * have never came, or no call was accepted without pairs, with some, with 256 (or all that
- * a map allows, where n is too small for that), or with a 1 at a frozen position. */
+/* Prints how often each answer came. Gives 0 if, at some m and by one of both transforms, a
+ * refusal that it can have never came, or no call was accepted without pairs, with some, with
+ * 256 (or all that a map allows, where n is too small for that), or with a 1 at a frozen
+ * position; or if at some m none was accepted that asked for Arikan's transform by another
+ * byte than 1. */
 int check_report(void);
 
 #endif

@@ -26,12 +26,13 @@ static void try_pair(struct call *c, enum call_kind kind, size_t f, size_t e)
     try_bytes_of_pairs(c, kind, bytes, 4, f < (size_t)1 << c->m && reference_frozen(c->map, f) && e < f);
 }
 
-/* For n = 4 every pair of every code, and every two pairs of the code that has all frozen but
- * position 0; numbers go on past n. */
-static void try_pairs_of_4(enum call_kind kind)
+/* For n = 4 every pair of every code with this transform, and every two pairs of the code that
+ * has all frozen but position 0; numbers go on past n. */
+static void try_pairs_of_4(enum call_kind kind, int arikan)
 {
     struct call c;
     call_freeze(&c, 2, FROZEN_NONE);
+    c.arikan = draw_flag(arikan);
     for (unsigned i = 0; i < 16 * 36; i++) {
         c.map[0] = (uint8_t)(i / 36);
         try_pair(&c, kind, i % 36 / 6, i % 6);
@@ -70,8 +71,8 @@ void try_pairs(enum call_kind kind, uint32_t m, unsigned long rounds)
 {
     struct call c;
     size_t n = (size_t)1 << m;
-    if (m == 2)
-        try_pairs_of_4(kind);
+    for (int arikan = 0; m == 2 && arikan < 2; arikan++)
+        try_pairs_of_4(kind, arikan);
     for (unsigned long round = 0; round < rounds; round++) {
         for (int pairs = 0; pairs < PAIR_KINDS; pairs++) {
             freeze_many(&c, m);
@@ -83,6 +84,7 @@ void try_pairs(enum call_kind kind, uint32_t m, unsigned long rounds)
     }
     call_freeze(&c, m, FROZEN_SOME);
     for (size_t i = 0; i < n + 2; i += n <= 64 || i + 4 > n ? 1 : 1 + draw_below(16)) {
+        c.arikan = draw_flag(draw_below(2) == 0);
         try_pair(&c, kind, i, i > 0 ? draw_below(i) : 0);
         try_pair(&c, kind, n - 1 - draw_below(2), i);
     }

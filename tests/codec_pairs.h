@@ -5,7 +5,8 @@
 #include "codec_calls.h"
 
 /* Every kind of pairs, every way to break a rule, one pair with f or e at each place; for
- * n = 4 every pair, and every two. Ends the program if one is answered wrongly. */
+ * n = 4 every pair, and every two, by each transform. Ends the program if one is answered
+ * wrongly. */
 void try_pairs(enum call_kind kind, uint32_t m, unsigned long rounds);
 
 #endif

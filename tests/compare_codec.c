@@ -1,6 +1,6 @@
 /*
  * Compares the encoder and the extractor of the library with the reference ones,
- * at every m.
+ * at every m and by both transforms.
  *
  *   compare_codec [seed [rounds]]
  *
@@ -67,22 +67,53 @@ static const struct example {
     {ENCODE, 2, "\x0d", 1, "", "", 4, 15, "2"},
 };
 
+/* By Arikan's transform, for which any byte but 0 asks. */
+static const struct arikan_example {
+    uint8_t arikan;
+    struct example call;
+} arikan_examples[] = {
+    {1, {ENCODE, 2, "\x00", 1, "1000", "1000", 4, 0, ""}},
+    {1, {ENCODE, 2, "\x00", 1, "0100", "1100", 4, 0, ""}},
+    {1, {ENCODE, 2, "\x00", 1, "0010", "1010", 4, 0, ""}},
+    {1, {ENCODE, 2, "\x00", 1, "0001", "1111", 4, 0, ""}},
+    {2, {ENCODE, 2, "\x00", 1, "0010", "1010", 4, 0, ""}},
+    {255, {ENCODE, 2, "\x00", 1, "0010", "1010", 4, 0, ""}},
+    {1, {EXTRACT, 2, "\x00", 1, "1010", "0010", 4, 0, ""}},
+    {128, {EXTRACT, 2, "\x00", 1, "1010", "0010", 4, 0, ""}},
+    {1, {ENCODE, 3, "\x00", 1, "00001000", "10001000", 8, 0, ""}},
+    {1, {ENCODE, 3, "\x00", 1, "00000100", "11001100", 8, 0, ""}},
+    {1, {ENCODE, 3, "\x00", 1, "00000010", "10101010", 8, 0, ""}},
+    {1, {EXTRACT, 3, "\x00", 1, "11001100", "00000100", 8, 0, ""}},
+    {1, {ENCODE, 2, "\x03", 1, "11", "0101", 4, 0, ""}},
+    {1, {EXTRACT, 2, "\x03", 1, "0101", "11", 2, 0, ""}},
+    {1, {EXTRACT, 2, "\x03", 1, "1001", "", 2, 12, ""}},
+    {0, {EXTRACT, 2, "\x03", 1, "0101", "", 2, 12, ""}},
+    {1, {ENCODE, 2, "\x0d", 1, "1", "0110", 4, 0, "201030103020"}},
+    {1, {EXTRACT, 2, "\x0d", 1, "0110", "1", 1, 0, "201030103020"}},
+    {1, {EXTRACT, 2, "\x0d", 1, "1010", "", 1, 12, "201030103020"}},
+};
+
+static void run_example(const struct example *e, uint8_t arikan)
+{
+    struct call c = {.kind = e->kind, .m = e->m, .arikan = arikan, .map_len = e->map_len, .in_len = strlen(e->in),
+                     .out_len = e->out_len, .answer = e->answer, .pairs.len = strlen(e->pairs)};
+    memcpy(c.map, e->map, e->map_len);
+    for (size_t j = 0; j < c.pairs.len; j++)
+        c.pairs.bytes[j] = (uint8_t)(e->pairs[j] - '0');
+    for (size_t j = 0; j < c.in_len; j++)
+        c.in[j] = (uint8_t)(e->in[j] - '0');
+    check_call(&c, e->m < MIN_M ? MIN_M : e->m > MAX_M ? MAX_M : e->m);
+    for (size_t j = 0; e->out[j] != 0; j++)
+        if (check_output()[j] != e->out[j] - '0')
+            check_fail(&c, "an example of the rules differs");
+}
+
 static void run_examples(void)
 {
-    for (size_t i = 0; i < sizeof examples / sizeof examples[0]; i++) {
-        const struct example *e = &examples[i];
-        struct call c = {.kind = e->kind, .m = e->m, .map_len = e->map_len, .in_len = strlen(e->in),
-                         .out_len = e->out_len, .answer = e->answer, .pairs.len = strlen(e->pairs)};
-        memcpy(c.map, e->map, e->map_len);
-        for (size_t j = 0; j < c.pairs.len; j++)
-            c.pairs.bytes[j] = (uint8_t)(e->pairs[j] - '0');
-        for (size_t j = 0; j < c.in_len; j++)
-            c.in[j] = (uint8_t)(e->in[j] - '0');
-        check_call(&c, e->m < MIN_M ? MIN_M : e->m > MAX_M ? MAX_M : e->m);
-        for (size_t j = 0; e->out[j] != 0; j++)
-            if (check_output()[j] != e->out[j] - '0')
-                check_fail(&c, "an example of the rules differs");
-    }
+    for (size_t i = 0; i < sizeof examples / sizeof examples[0]; i++)
+        run_example(&examples[i], 0);
+    for (size_t i = 0; i < sizeof arikan_examples / sizeof arikan_examples[0]; i++)
+        run_example(&arikan_examples[i].call, arikan_examples[i].arikan);
 }
 
 /* ---- both sides of every limit */
@@ -116,11 +147,24 @@ static void try_bytes(enum call_kind kind, uint32_t m)
     }
 }
 
-static void try_maps_of_4(enum call_kind kind)
+/* Every byte that can say which transform. */
+static void try_flags(enum call_kind kind, uint32_t m)
+{
+    for (unsigned byte = 0; byte < 256; byte++) {
+        struct call c;
+        call_freeze(&c, m, FROZEN_SOME);
+        c.arikan = (uint8_t)byte;
+        call_fill(&c, kind);
+        check_as(&c, m, 0);
+    }
+}
+
+static void try_maps_of_4(enum call_kind kind, int arikan)
 {
     for (unsigned bits = 0; bits < 256; bits++) {
         struct call c;
         call_freeze(&c, 2, FROZEN_NONE);
+        c.arikan = draw_flag(arikan);
         c.map[0] = bits % 16;
         call_pair(&c, pairs_any_kind());
         call_fill(&c, kind);
@@ -129,14 +173,16 @@ static void try_maps_of_4(enum call_kind kind)
     }
 }
 
-/* Every word of four or of eight bits, nothing frozen: each entry of the table that
- * the library works with, and every two of them as the halves of a word. */
-static void try_all_words(enum call_kind kind, uint32_t m)
+/* Every word of four or of eight bits, nothing frozen, so that either transform has it:
+ * each entry of the table that the library works with, and every two of them as the halves
+ * of a word. */
+static void try_all_words(enum call_kind kind, uint32_t m, int arikan)
 {
     size_t n = (size_t)1 << m;
     for (unsigned bits = 0; bits < 1u << n; bits++) {
         struct call c;
         call_good(&c, kind, m, FROZEN_NONE);
+        c.arikan = draw_flag(arikan);
         for (size_t i = 0; i < n; i++)
             c.in[i] = (uint8_t)(bits >> i & 1);
         check_as(&c, m, 0);
@@ -144,11 +190,12 @@ static void try_all_words(enum call_kind kind, uint32_t m)
 }
 
 /* Words of a code without and of one with pairs, each input bit changed in turn. */
-static void try_words(uint32_t m)
+static void try_words(uint32_t m, int arikan)
 {
     struct call good, c;
     for (int with = 0; with < 2; with++) {
         call_freeze(&good, m, FROZEN_SOME);
+        good.arikan = draw_flag(arikan);
         call_pair(&good, with ? PAIRS_MANY : PAIRS_NONE);
         call_fill(&good, EXTRACT);
         for (size_t i = 0; i < (size_t)1 << m; i++) {
@@ -169,12 +216,15 @@ static void try_limits(enum call_kind kind, uint32_t m)
     }
     try_lengths(kind, m);
     try_bytes(kind, m);
-    if (m == 2)
-        try_maps_of_4(kind);
-    if (m <= 3)
-        try_all_words(kind, m);
-    if (kind == EXTRACT)
-        try_words(m);
+    try_flags(kind, m);
+    for (int arikan = 0; arikan < 2; arikan++) {
+        if (m == 2)
+            try_maps_of_4(kind, arikan);
+        if (m <= 3)
+            try_all_words(kind, m, arikan);
+        if (kind == EXTRACT)
+            try_words(m, arikan);
+    }
 }
 
 /* ---- random calls */
@@ -229,9 +279,11 @@ int main(int argc, char **argv)
         }
     }
     if (!check_report()) {
-        printf("compare_codec: FAILED: some refusal, accepted call or kind of pairs never came (seed %lu)\n", seed);
+        printf("compare_codec: FAILED: some refusal, accepted call, transform or kind of pairs never came (seed %lu)\n",
+               seed);
         return 1;
     }
-    printf("compare_codec: %lu calls agree (seed %lu)\n", check_count(), seed);
+    printf("compare_codec: %lu calls agree, %lu of them by Arikan's transform (seed %lu)\n", check_count(),
+           check_arikan_count(), seed);
     return 0;
 }

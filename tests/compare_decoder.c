@@ -1,5 +1,6 @@
 /*
- * Compares the decoder of the library with the paper decoder, at every m.
+ * Compares the decoder of the library with the paper decoder, at every m and by both
+ * transforms.
  *
  *   compare_decoder [seed [rounds]]
  *
@@ -21,6 +22,13 @@ enum { USUAL_ROUNDS = 80 };
 
 /* ---- both sides of every limit */
 
+/* A quick call by this transform. */
+static void quick_by(struct decoder_call *c, uint32_t m, int arikan)
+{
+    decoder_call_quick(c, m);
+    c->arikan = draw_flag(arikan);
+}
+
 static void try_numbers(uint32_t m)
 {
     struct decoder_call c;
@@ -38,8 +46,11 @@ static void try_numbers(uint32_t m)
     for (uint32_t l = 1; l <= 32; l += 31) {
         decoder_call_good(&c, m, CODE_FEW_CLEAR, SOFT_TIES, l, n);
         decoder_check_as(&c, m, 0);
-        decoder_call_good(&c, m, CODE_FEW_CLEAR, SOFT_CLEAN, l, n);
-        decoder_check_as(&c, m, 0);
+        for (int arikan = 0; arikan < 2; arikan++) {
+            decoder_call_good(&c, m, CODE_FEW_CLEAR, SOFT_CLEAN, l, n);
+            decoder_call_transform(&c, arikan, SOFT_CLEAN);
+            decoder_check_as(&c, m, 0);
+        }
     }
     for (size_t which = 0; which < BAD_STOPS; which++) {
         decoder_call_quick(&c, m);
@@ -47,31 +58,42 @@ static void try_numbers(uint32_t m)
         decoder_check_as(&c, m, 5);
     }
     const uint32_t stops[6] = {0, 1, n / 2, n / 2 + 1, n - 1, n};
-    for (size_t which = 0; which < 6; which++) {
-        decoder_call_quick(&c, m);
-        c.stop = stops[which];
+    for (size_t which = 0; which < 12; which++) {
+        quick_by(&c, m, which % 2);
+        c.stop = stops[which / 2];
         decoder_check_as(&c, m, 0);
     }
 }
 
-static void try_lengths(uint32_t m)
+/* Every byte that can say which transform, for short blocks. */
+static void try_flags(uint32_t m)
+{
+    struct decoder_call c;
+    for (unsigned byte = 0; m <= 4 && byte < 256; byte++) {
+        decoder_call_quick(&c, m);
+        c.arikan = (uint8_t)byte;
+        decoder_check_as(&c, m, 0);
+    }
+}
+
+static void try_lengths(uint32_t m, int arikan)
 {
     struct decoder_call c;
     for (size_t less = 0; less <= 2; less++) { /* one more, right, one less */
-        decoder_call_quick(&c, m);
+        quick_by(&c, m, arikan);
         c.map_len = c.map_len + 1 - less;
         decoder_check_as(&c, m, less == 1 ? 0 : 2);
-        decoder_call_quick(&c, m);
+        quick_by(&c, m, arikan);
         c.soft_len = c.soft_len + 1 - less;
         decoder_check_as(&c, m, less == 1 ? 0 : 6);
     }
-    decoder_call_quick(&c, m);
+    quick_by(&c, m, arikan);
     decoder_call_trim(&c);
     decoder_check_as(&c, m, 0);
     for (size_t which = 0; which < 5; which++) {
         static const uint32_t refusals[5] = {8, 9, 10, 10, 10};
         for (size_t beyond = 0; beyond < 3; beyond++) { /* one less, all less, one more */
-            decoder_call_quick(&c, m);
+            quick_by(&c, m, arikan);
             decoder_call_trim(&c);
             size_t *lens[5] = {&c.numbers_len, &c.bytes_len, &c.inputs_len, &c.words_len, &c.scores_len};
             *lens[which] = beyond == 0 ? *lens[which] - 1 : beyond == 1 ? 0 : *lens[which] + 1;
@@ -101,11 +123,11 @@ static void try_soft_values(uint32_t m)
     }
 }
 
-static void try_maps_of_4(void)
+static void try_maps_of_4(int arikan)
 {
     for (unsigned bits = 0; bits < 256; bits++) {
         struct decoder_call c;
-        decoder_call_quick(&c, 2);
+        quick_by(&c, 2, arikan);
         c.map[0] = (uint8_t)(bits % 16);
         decoder_call_pair(&c, pairs_any_kind(), SOFT_SMALL);
         c.map[0] = (uint8_t)bits;
@@ -134,13 +156,18 @@ static enum soft_kind any_soft(void)
 }
 
 /* n + 1 stop positions and a power of two of list sizes have no common divisor: in turn
- * they make every pair. */
+ * they make every pair. The transform changes with each turn of the stop positions, and
+ * once more with each turn of the pairs. */
 static void try_short_blocks(uint32_t m, uint32_t list_sizes, unsigned long count)
 {
+    unsigned long stops = (1u << m) + 1;
     for (unsigned long i = 0; i < count; i++) {
         struct decoder_call c;
-        decoder_call_good(&c, m, (enum code_kind)draw_below(CODE_KINDS), any_soft(), (uint32_t)(1 + i % list_sizes),
-                          (uint32_t)(i % ((1u << m) + 1)));
+        enum soft_kind soft = any_soft();
+        int arikan = (i / stops + i / (stops * list_sizes)) % 2 != 0;
+        decoder_call_good(&c, m, (enum code_kind)draw_below(CODE_KINDS), soft, (uint32_t)(1 + i % list_sizes),
+                          (uint32_t)(i % stops));
+        decoder_call_transform(&c, arikan, soft);
         decoder_check(&c, m);
     }
 }
@@ -178,7 +205,7 @@ static const struct long_block {
     {10, 24, 333, CODE_POLAR, PAIRS_MANY, SOFT_WIDE},   {10, 32, 1024, CODE_POLAR, PAIRS_FULL, SOFT_NOISY},
 };
 
-static void try_long_blocks(unsigned long rounds)
+static void try_long_blocks(unsigned long rounds, int arikan)
 {
     for (size_t i = 0; i < sizeof long_blocks / sizeof long_blocks[0]; i++) {
         const struct long_block *b = &long_blocks[i];
@@ -186,6 +213,7 @@ static void try_long_blocks(unsigned long rounds)
             continue;
         struct decoder_call c;
         decoder_call_good(&c, b->m, b->code, b->soft, b->list_size, b->stop);
+        c.arikan = draw_flag(arikan);
         decoder_call_pair(&c, b->pairs, b->soft);
         decoder_check(&c, b->m);
     }
@@ -194,10 +222,13 @@ static void try_long_blocks(unsigned long rounds)
 static void try_all(unsigned long rounds)
 {
     decoder_examples();
-    try_maps_of_4();
+    try_maps_of_4(0);
+    try_maps_of_4(1);
     for (uint32_t m = DECODER_MIN_M; m <= DECODER_MAX_M; m++) {
         try_numbers(m);
-        try_lengths(m);
+        try_flags(m);
+        try_lengths(m, 0);
+        try_lengths(m, 1);
         try_soft_values(m);
         try_decoder_pairs(m, rounds / 20);
         try_faults(m, rounds);
@@ -209,7 +240,8 @@ static void try_all(unsigned long rounds)
     try_middle_blocks(6, 32 + 4 * rounds);
     try_middle_blocks(7, 8 + 5 * rounds / 4);
     try_middle_blocks(8, 4 + 3 * rounds / 5);
-    try_long_blocks(rounds);
+    try_long_blocks(rounds, 0);
+    try_long_blocks(rounds, 1);
 }
 
 int main(int argc, char **argv)
@@ -224,6 +256,7 @@ int main(int argc, char **argv)
         printf("compare_decoder: FAILED: not all was reached (seed %lu)\n", seed);
         return 1;
     }
-    printf("compare_decoder: %lu calls agree (seed %lu)\n", decoder_tally_calls(), seed);
+    printf("compare_decoder: %lu calls agree, %lu of them by Arikan's transform (seed %lu)\n", decoder_tally_calls(),
+           decoder_tally_arikan_calls(), seed);
     return 0;
 }

@@ -1,10 +1,10 @@
 /*
- * Looks whether the first row is known early, on random codes at every m: once the stop
- * position is past every frozen position, the first row's input bits below it and its
- * score are those at every stop position behind it, n among them. Looks at the ceiling
- * too: from one stop position to a later one it never rises, and where it is above the
- * first score, or the stop position is past every frozen position, it stays. No word that
- * the longest list finds is above it.
+ * Looks whether the first row is known early, on random codes at every m and by both
+ * transforms: once the stop position is past every frozen position, the first row's input
+ * bits below it and its score are those at every stop position behind it, n among them.
+ * Looks at the ceiling too: from one stop position to a later one it never rises, and where
+ * it is above the first score, or the stop position is past every frozen position, it stays.
+ * No word that the longest list finds is above it.
  *
  *   compare_first_row [seed [rounds]]
  *
@@ -23,12 +23,12 @@
 
 enum { USUAL_ROUNDS = 20, PAPER_M = 5 };
 
-/* What must be met at every m, or equal rows would show little: a stop position 0 (no
- * position is frozen), one between 0 and n, and n; for one between, a first row that has
- * a 1 behind it, and one that shares its score with the second; and a first row that is
- * another where the stop position is one less, at the last frozen position. Then a ceiling
- * above the first score past every frozen position, and at a stop position before it a
- * ceiling that falls up to n, and one above the first score already; a better first row of
+/* What must be met at every m by each transform, or equal rows would show little: a stop
+ * position 0 (no position is frozen), one between 0 and n, and n; for one between, a first
+ * row that has a 1 behind it, and one that shares its score with the second; and a first row
+ * that is another where the stop position is one less, at the last frozen position. Then a
+ * ceiling above the first score past every frozen position, and at a stop position before it
+ * a ceiling that falls up to n, and one above the first score already; a better first row of
  * the longest list; 256 pairs, or all that the map allows where n is too small for that; and
  * for a stop position between, a first row with a 1 at a frozen position. */
 enum {
@@ -41,7 +41,12 @@ static const char *const event_name[EVENTS] = {"none frozen", "frozen up to a pl
                                                "ceiling stays above", "a longer list helps", "full of pairs",
                                                "a sum of 1"};
 
-static unsigned long events[DECODER_MAX_M + 1][EVENTS];
+static unsigned long events[DECODER_MAX_M + 1][2][EVENTS]; /* by the convolutional transform, by Arikan's */
+
+static unsigned long *events_of(const struct decoder_call *c)
+{
+    return events[c->m][c->arikan != 0];
+}
 
 /* A call's first row, its ceiling, and whether the second row has the same score. */
 struct row {
@@ -95,7 +100,7 @@ static void must_agree(const struct decoder_call *c, const struct row *early, co
     static const uint8_t zeros[DECODER_MAX_N];
     size_t n = (size_t)1 << c->m, p = early->stop;
     uint8_t word[DECODER_MAX_N];
-    reference_transform(n, early->input, word);
+    reference_transform(n, c->arikan, early->input, word);
     need(early->score == late->score, c, early, late, "the first row's scores differ");
     need(memcmp(early->input, late->input, p) == 0, c, early, late, "the first row's bits differ");
     need(memcmp(early->input + p, zeros, n - p) == 0, c, early, late, "bits behind the first stop are not 0");
@@ -132,7 +137,7 @@ static void count(const struct decoder_call *c, const struct row *early, const s
 {
     size_t n = (size_t)1 << c->m;
     int between = early->stop > 0 && early->stop < n;
-    unsigned long *met = events[c->m];
+    unsigned long *met = events_of(c);
     int ones = 0;
     for (size_t i = 0; i < n; i++)
         ones |= reference_frozen(c->map, i) && last->input[i];
@@ -154,9 +159,9 @@ static void try_before(struct decoder_call *c, const struct row *early, const st
     ceilings_must_agree(c, &any, &before);
     ceilings_must_agree(c, &before, early);
     ceilings_must_agree(c, &any, last);
-    events[c->m][ANOTHER_BEFORE] += before.score != last->score || memcmp(before.input, last->input, p - 1) != 0;
-    events[c->m][FALLS] += any.ceiling > last->ceiling;
-    events[c->m][STAYS] += any.ceiling > any.score;
+    events_of(c)[ANOTHER_BEFORE] += before.score != last->score || memcmp(before.input, last->input, p - 1) != 0;
+    events_of(c)[FALLS] += any.ceiling > last->ceiling;
+    events_of(c)[STAYS] += any.ceiling > any.score;
 }
 
 /* At stop n the first row of any list is a word of the code; last is that of the list as
@@ -167,7 +172,7 @@ static void try_longer(struct decoder_call *c, const struct row *last)
     decoder_call_trim(c);
     struct row longer = first_row(c, last->stop);
     need(longer.score <= last->ceiling, c, last, &longer, "a word of the code is above the ceiling");
-    events[c->m][LONGER] += longer.score > last->score;
+    events_of(c)[LONGER] += longer.score > last->score;
 }
 
 static void try_block(struct decoder_call *c)
@@ -186,10 +191,11 @@ static void try_block(struct decoder_call *c)
 static int report(uint32_t m)
 {
     int reached = 1;
-    printf("m %2lu:", (unsigned long)m);
+    printf("m %2lu, by Arikan's transform in brackets:", (unsigned long)m);
     for (size_t event = 0; event < EVENTS; event++) {
-        printf("%s %s %lu", event == 0 ? "" : ",", event_name[event], events[m][event]);
-        reached &= events[m][event] > 0;
+        unsigned long x = events[m][0][event], y = events[m][1][event];
+        printf("%s %s %lu (%lu)", event == 0 ? "" : ",", event_name[event], x + y, y);
+        reached &= x > 0 && y > 0;
     }
     printf("%s\n", reached ? "" : "  NOT ALL REACHED");
     return reached;
@@ -204,7 +210,7 @@ int main(int argc, char **argv)
     decoder_check_open("compare_first_row", seed);
     for (uint32_t m = DECODER_MIN_M; m <= DECODER_MAX_M; m++) {
         struct decoder_call c;
-        for (unsigned long i = 0; i < rounds * (m == 2 ? 100 : m <= 5 ? 25 : m <= 8 ? 10 : 3); i++) {
+        for (unsigned long i = 0; i < rounds * (m == 2 ? 150 : m == 3 ? 60 : m <= 5 ? 25 : m <= 8 ? 10 : 4); i++) {
             draw_block(&c, m, i);
             try_block(&c);
         }
@@ -214,6 +220,7 @@ int main(int argc, char **argv)
         printf("compare_first_row: FAILED: not all was reached (seed %lu)\n", seed);
         return 1;
     }
-    printf("compare_first_row: first rows and ceilings agree over %lu calls (seed %lu)\n", decoder_tally_calls(), seed);
+    printf("compare_first_row: first rows and ceilings agree over %lu calls, %lu of them by Arikan's transform "
+           "(seed %lu)\n", decoder_tally_calls(), decoder_tally_arikan_calls(), seed);
     return 0;
 }

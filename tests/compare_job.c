@@ -24,10 +24,20 @@ static const struct example {
     {"", 0, 13},
     {"\x00", 1, 13},
     {"\x08", 1, 13},
-    {"\x10", 1, 14},
+    {"\x10", 1, 13},
+    {"\x1f", 1, 13},
     {"\x20", 1, 14},
+    {"\x30", 1, 14},
+    {"\x40", 1, 14},
+    {"\x80", 1, 14},
     {"\x20\x01", 2, 14},
     {"\xf8\x02", 2, 14},
+    {"\x10\x01", 2, 1},
+    {"\x10\x02", 2, 13},
+    {"\x18\x02\x0d\xff", 4, 13},
+    {"\x18\x02\x0d\x01\x01", 5, 15},
+    {"\x10\x02\x10\0\0\0\0\0\0\0\0", 11, 3},
+    {"\x30\x02\x03\0\0\0\0\0\0\0\0", 11, 14},
     {"\x08\x01", 2, 1},
     {"\x08\x02", 2, 13},
     {"\x08\x02\x0d", 3, 13},
@@ -61,6 +71,11 @@ static void run_examples(void)
     memcpy(r.soft, ends, sizeof ends);
     memcpy(r.bytes, "\x01\x02\x02\x03\x00\xf8\xff\x07\x01\xf8\x07\x00", 12);
     job_check(&r, 1, 4, 0);
+    /* With Arikan's transform: the bit for it takes no bytes. */
+    r.arikan = 1;
+    r.bytes[0] = 0x11;
+    job_check(&r, 1, 4, 0);
+    r.arikan = 0;
     for (size_t i = 0; i < sizeof examples / sizeof examples[0]; i++) {
         memcpy(r.bytes, examples[i].bytes, examples[i].len);
         r.len = examples[i].len;
@@ -92,8 +107,9 @@ static void try_first_bytes(uint32_t m)
     struct job_record r;
     for (unsigned byte = 0; byte < 256; byte++) {
         job_good(&r, m, byte % JOB_FIELD_SETS, 0);
+        r.arikan = byte / JOB_ARIKAN % 2;
         r.bytes[0] = (uint8_t)byte;
-        job_check_as(&r, byte < JOB_FIELD_SETS ? 0 : 14);
+        job_check_as(&r, byte < JOB_FIRST_BYTES ? 0 : 14);
         /* With pairs, another m finds their number at another place. */
         job_good(&r, m, (unsigned)draw_below(JOB_FIELD_SETS), 0);
         r.bytes[1] = (uint8_t)byte;
@@ -236,9 +252,11 @@ int main(int argc, char **argv)
         }
     }
     if (!job_check_report()) {
-        printf("compare_job: FAILED: some refusal, accepted call or kind of pairs never came (seed %lu)\n", seed);
+        printf("compare_job: FAILED: some refusal, accepted call, transform or kind of pairs never came (seed %lu)\n",
+               seed);
         return 1;
     }
-    printf("compare_job: %lu calls agree (seed %lu)\n", job_check_count(), seed);
+    printf("compare_job: %lu calls agree, %lu of them with Arikan's transform (seed %lu)\n", job_check_count(),
+           job_check_arikan_count(), seed);
     return 0;
 }

@@ -8,7 +8,7 @@
  */
 #include "draw.h"
 #include "job_calls.h"
-#include "reference_codec.h"
+#include "program_tally.h"
 #include "reference_job.h"
 #include "run_program.h"
 
@@ -16,22 +16,10 @@
 #include <stdlib.h>
 #include <string.h>
 
-enum { ANSWERS = 16, SERVED_M = 6, SERVED_LIST = 4 };
+enum { SERVED_M = 6, SERVED_LIST = 4 };
 
 static const char *program;
-static unsigned long seed, runs, kinds[JOB_KINDS], answers[ANSWERS]; /* answer 0: served */
-static unsigned long served_m[SERVED_M + 1], served_list[SERVED_LIST + 1], served_fields[JOB_FIELD_SETS];
-static unsigned long in_pieces;
-
-/* Served blocks with pairs, with 256 of them or all that the map allows, and with a row that
- * has a 1 at a frozen position. */
-static unsigned long with_pairs[SERVED_M + 1], with_full[SERVED_M + 1], with_sums[SERVED_M + 1];
-
-/* What the ceilings of served blocks must be met as, once each at least: signs and 0 for
- * how the number is printed, and above the first score, where no row has it. */
-enum { NEGATIVE, ZERO, POSITIVE, ABOVE, CEILINGS };
-static const char *const ceiling_name[CEILINGS] = {"negative", "0", "positive", "above the first score"};
-static unsigned long ceilings[CEILINGS];
+static unsigned long seed, runs, in_pieces;
 
 static void fail(const uint8_t *input, size_t len, const char *what)
 {
@@ -72,56 +60,14 @@ static uint32_t made(const struct job_record *r)
     return r->m > SERVED_M || r->list_size > SERVED_LIST ? 8 : 0;
 }
 
-/* The answer of an output that the reference gives. */
-static uint32_t answer_of(const char *want)
-{
-    return strncmp(want, "refused ", 8) == 0 ? (uint32_t)strtoul(want + 8, NULL, 10) : 0;
-}
-
-/* Takes the ceiling and the first score from an output that the reference gives. */
-static void count_ceiling(const char *want)
-{
-    long ceiling, score;
-    if (sscanf(want, "frame %*u rows %*u ceiling %ld 0 %ld", &ceiling, &score) != 2)
-        return;
-    ceilings[ceiling < 0 ? NEGATIVE : ceiling == 0 ? ZERO : POSITIVE]++;
-    ceilings[ABOVE] += ceiling > score;
-}
-
-/* Some input bits of an output are 1 at a frozen position. */
-static int has_sums(const struct job_record *r, const char *want)
-{
-    int ones = 0;
-    char input[PROGRAM_MAX_N + 1];
-    while ((want = strchr(want, '\n') + 1)[0] != 0 && sscanf(want, "%*u %*d %64s", input) == 1)
-        for (size_t i = 0; i < (size_t)1 << r->m; i++)
-            ones |= reference_frozen(r->map, i) && input[i] == '1';
-    return ones;
-}
-
-static void count_served(const struct job_record *r, const char *want)
-{
-    served_m[r->m]++;
-    served_list[r->list_size]++;
-    served_fields[r->fields]++;
-    with_pairs[r->m] += r->count > 0;
-    with_full[r->m] += (unsigned long)pairs_are_full(&r->pairs, r->map, (size_t)1 << r->m);
-    with_sums[r->m] += (unsigned long)has_sums(r, want);
-}
-
 static void check(const struct job_record *r)
 {
     char want[REFERENCE_OUTPUT_ROOM];
     size_t want_len = reference_output(r->bytes, r->len, want);
-    uint32_t answer = answer_of(want);
-    if (made(r) != JOB_UNKNOWN && answer != made(r))
+    if (made(r) != JOB_UNKNOWN && program_answer(want) != made(r))
         fail(r->bytes, r->len, "the reference answers otherwise than the record was made for");
     run(r->bytes, r->len, want, want_len);
-    kinds[r->kind]++;
-    answers[answer]++;
-    count_ceiling(want);
-    if (answer == 0 && r->refusal == 0)
-        count_served(r, want);
+    program_tally(r, want);
 }
 
 /* ---- inputs whose outputs are written here */
@@ -187,6 +133,21 @@ static void run_examples(void)
     run_long(JOB_ROOM, 0x20, 0, "refused 13\n");
 }
 
+/* With Arikan's transform; the bit behind the one for it must be 0. */
+static void run_arikan_examples(void)
+{
+    run_text("\x11\x02\x02\x03\x05\x00\xfd\xff\x02\x00\x07\x00", 12,
+             "frame 0 rows 2 ceiling 11\n0 11 0000 0000\n1 3 0011 0101\n");
+    run_text("\x10\x02\x03\x05\x00\xfd\xff\x02\x00\x07\x00", 11,
+             "frame 0 rows 4 ceiling 11\n"
+             "0 11 0000 0000\n1 3 0011 0101\n2 -3 0010 1010\n3 -11 0001 1111\n");
+    run_text("\x19\x02\x02\x0d\x03\x00\x02\x00\x01\x00\x03\x00\x01\x00\x03\x00\x02\x00"
+             "\x05\x00\xfd\xff\x02\x00\x07\x00", 26,
+             "frame 0 rows 2 ceiling 13\n0 13 0110 0110\n1 11 0000 0000\n");
+    run_text("\x10", 1, "refused 13\n");
+    run_text("\x30\x02\x03\x05\x00\xfd\xff\x02\x00\x07\x00", 11, "refused 14\n");
+}
+
 /* ---- soft values on both sides of the limits, and the ends of 16 bits, in every size that is served */
 
 static void run_soft_values(void)
@@ -234,49 +195,6 @@ static void run_limits(void)
     }
 }
 
-/* ---- the report */
-
-static int reached_all(const char *name, const unsigned long *counts, size_t first, size_t last)
-{
-    int reached = 1;
-    printf("%s", name);
-    for (size_t i = first; i <= last; i++) {
-        printf(" %zu: %lu%s", i, counts[i], i < last ? "," : "\n");
-        reached &= counts[i] > 0;
-    }
-    return reached;
-}
-
-static int report(void)
-{
-    static const size_t possible[] = {1, 3, 4, 5, 7, 8, 13, 14, 15};
-    int reached = in_pieces > 0;
-    for (int kind = 0; kind < JOB_KINDS; kind++) {
-        printf("%6lu %s\n", kinds[kind], job_kind_name[kind]);
-        reached &= kinds[kind] > 0;
-    }
-    printf("served %lu; refused", answers[0]);
-    reached &= 3 * answers[0] >= runs; /* at least a third is served */
-    for (size_t i = 0; i < sizeof possible / sizeof possible[0]; i++) {
-        printf("%s %zu: %lu", i == 0 ? "" : ",", possible[i], answers[possible[i]]);
-        reached &= answers[possible[i]] > 0;
-    }
-    printf("\n");
-    printf("served with a ceiling");
-    for (size_t kind = 0; kind < CEILINGS; kind++) {
-        printf("%s %s: %lu", kind == 0 ? "" : ",", ceiling_name[kind], ceilings[kind]);
-        reached &= ceilings[kind] > 0;
-    }
-    printf("\n");
-    reached &= reached_all("served with m", served_m, 2, SERVED_M);
-    reached &= reached_all("served with list size", served_list, 1, SERVED_LIST);
-    reached &= reached_all("served with fields", served_fields, 0, JOB_FIELD_SETS - 1);
-    reached &= reached_all("served with pairs, m", with_pairs, 2, SERVED_M);
-    reached &= reached_all("256 of them or all that can be, m", with_full, 2, SERVED_M);
-    reached &= reached_all("with a 1 at a frozen position, m", with_sums, 2, SERVED_M);
-    return reached;
-}
-
 /* Two of five are served; the rest are of all kinds in turn. */
 static void run_records(unsigned long records)
 {
@@ -302,15 +220,16 @@ int main(int argc, char **argv)
     printf("compare_program: %s, seed %lu, records %lu\n", program, seed, records);
     draw_seed(seed);
     run_examples();
+    run_arikan_examples();
     run_soft_values();
     run_limits();
     run_records(records);
-    if (!report()) {
-        printf("compare_program: FAILED: some record, answer, ceiling or kind of pairs never came, or too few were "
-               "served (seed %lu)\n", seed);
+    if (!program_tally_report(runs) || in_pieces == 0) {
+        printf("compare_program: FAILED: some record, answer, ceiling, transform or kind of pairs never came, or too "
+               "few were served (seed %lu)\n", seed);
         return 1;
     }
-    printf("compare_program: %lu runs agree, %lu of them with the input in two pieces (seed %lu)\n", runs, in_pieces,
-           seed);
+    printf("compare_program: %lu runs agree, %lu of them with the input in two pieces, %lu served with Arikan's "
+           "transform (seed %lu)\n", runs, in_pieces, program_tally_arikan(), seed);
     return 0;
 }

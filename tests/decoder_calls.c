@@ -40,6 +40,7 @@ static void make_code(struct decoder_call *c, uint32_t m, enum code_kind kind)
 {
     uint8_t frozen[DECODER_MAX_N] = {0};
     c->m = m;
+    c->arikan = draw_flag(draw_below(2) == 0);
     size_t n = size_of(c), cut = draw_below(n + 1);
     size_t share = 1 + draw_below(7); /* of eight positions, about so many are frozen */
     for (size_t i = 0; i < n; i++)
@@ -72,7 +73,7 @@ static void make_noisy(struct decoder_call *c, int noise)
     for (size_t i = 0; i < n; i++)
         payload[i] = (uint8_t)draw_below(2);
     reference_input(n, c->map, c->pairs.bytes, c->pairs.len, payload, u);
-    reference_transform(n, u, word);
+    reference_transform(n, c->arikan, u, word);
     for (size_t i = 0; i < n; i++)
         c->soft[i] = (int16_t)((word[i] ? -20 : 20) + draw_soft(noise));
 }
@@ -135,6 +136,12 @@ void decoder_call_quick(struct decoder_call *c, uint32_t m)
 void decoder_call_pair(struct decoder_call *c, enum pair_kind pairs, enum soft_kind soft)
 {
     pairs_draw(&c->pairs, c->map, size_of(c), pairs);
+    make_soft(c, soft);
+}
+
+void decoder_call_transform(struct decoder_call *c, int arikan, enum soft_kind soft)
+{
+    c->arikan = draw_flag(arikan);
     make_soft(c, soft);
 }
 

@@ -33,6 +33,7 @@ enum soft_kind {
 
 struct decoder_call {
     uint32_t m, list_size, stop;
+    uint8_t arikan;          /* 0, or any other byte for yes */
     uint8_t map[MAP_ROOM];   /* filled to its end, so that any length is a slice */
     struct pairs pairs;
     int16_t soft[SOFT_ROOM]; /* filled to its end, and all in range */
@@ -41,8 +42,8 @@ struct decoder_call {
     uint32_t refusal; /* what the call must be refused with; 0 if it must be served */
 };
 
-/* A call that is served, with pairs of any kind. What is lent has the length needed or is
- * longer. */
+/* A call that is served, by either transform and with pairs of any kind. What is lent has the
+ * length needed or is longer. */
 void decoder_call_good(struct decoder_call *c, uint32_t m, enum code_kind code, enum soft_kind soft,
                        uint32_t list_size, uint32_t stop);
 
@@ -52,6 +53,9 @@ void decoder_call_quick(struct decoder_call *c, uint32_t m);
 
 /* Gives a good call pairs of a kind, by its map, and new soft values. */
 void decoder_call_pair(struct decoder_call *c, enum pair_kind pairs, enum soft_kind soft);
+
+/* Gives a good call this transform, and new soft values. */
+void decoder_call_transform(struct decoder_call *c, int arikan, enum soft_kind soft);
 
 /* Gives what is lent exactly the lengths that are needed. */
 void decoder_call_trim(struct decoder_call *c);

@@ -66,10 +66,10 @@ static void print_difference(const struct decoder_call *c, uint32_t rows)
 void decoder_check_fail(const struct decoder_call *c, const char *what)
 {
     printf("%s: %s\n", program, what);
-    printf("  m %lu, list size %lu, stop %lu, map of %zu, pairs of %zu, soft values %zu, numbers %zu, bytes %zu, "
-           "inputs %zu, words %zu, scores %zu\n  map ",
-           (unsigned long)c->m, (unsigned long)c->list_size, (unsigned long)c->stop, c->map_len, c->pairs.len,
-           c->soft_len, c->numbers_len, c->bytes_len, c->inputs_len, c->words_len, c->scores_len);
+    printf("  m %lu, arikan %u, list size %lu, stop %lu, map of %zu, pairs of %zu, soft values %zu, numbers %zu, "
+           "bytes %zu, inputs %zu, words %zu, scores %zu\n  map ",
+           (unsigned long)c->m, c->arikan, (unsigned long)c->list_size, (unsigned long)c->stop, c->map_len,
+           c->pairs.len, c->soft_len, c->numbers_len, c->bytes_len, c->inputs_len, c->words_len, c->scores_len);
     for (size_t i = 0; i < c->map_len && i < 128; i++)
         printf("%02x", c->map[i]);
     printf("\n  pairs");
@@ -106,9 +106,9 @@ void decoder_check_open(const char *program_used, unsigned long seed_used)
 static struct paper_decoded ask_paper(const struct decoder_call *c)
 {
     decoder_memory_want(c, want);
-    return paper_decode(c->m, c->map, c->map_len, c->pairs.bytes, c->pairs.len, c->list_size, c->stop, c->soft,
-                        c->soft_len, (uint32_t *)(void *)want[NUMBERS], c->numbers_len, want[BYTES], c->bytes_len,
-                        want[INPUTS], c->inputs_len, want[WORDS], c->words_len,
+    return paper_decode(c->m, c->arikan, c->map, c->map_len, c->pairs.bytes, c->pairs.len, c->list_size, c->stop,
+                        c->soft, c->soft_len, (uint32_t *)(void *)want[NUMBERS], c->numbers_len, want[BYTES],
+                        c->bytes_len, want[INPUTS], c->inputs_len, want[WORDS], c->words_len,
                         (int32_t *)(void *)want[SCORES], c->scores_len);
 }
 
@@ -117,7 +117,7 @@ static struct caldurrex_decoded ask_library(const struct decoder_call *c, const 
     decoder_memory_place(c, dirt, lent);
     under_way = c;
     struct caldurrex_decoded answer = caldurrex_decode(
-        c->m, lent[MAP]->at, c->map_len, lent[PAIRS]->at, c->pairs.len, c->list_size, c->stop,
+        c->m, c->arikan, lent[MAP]->at, c->map_len, lent[PAIRS]->at, c->pairs.len, c->list_size, c->stop,
         (const int16_t *)(const void *)lent[SOFT]->at, c->soft_len, (uint32_t *)(void *)lent[NUMBERS]->at,
         c->numbers_len, lent[BYTES]->at, c->bytes_len, lent[INPUTS]->at, c->inputs_len, lent[WORDS]->at, c->words_len,
         (int32_t *)(void *)lent[SCORES]->at, c->scores_len);

@@ -2,6 +2,7 @@
 
 #include "decoder_calls.h"
 #include "decoder_check.h"
+#include "draw.h"
 
 #include <string.h>
 
@@ -66,6 +67,28 @@ static const struct paired_example {
     {4, {3, 0, 0, 0}, {0x0e, 2, 4, {1, -5, 2, 2}, 2, 2, {{2, "1001", "0111"}, {0, "0000", "0000"}}}},
 };
 
+/* By Arikan's transform, for which any byte but 0 asks. */
+static const struct arikan_example {
+    uint8_t arikan;
+    struct paired_example call;
+} arikan_examples[] = {
+    /* Frozen 0 and 1. */
+    {1, {0, {0}, {0x03, 1, 0, {5, -3, 2, 7}, 1, 17, {{17, "0000", "0000"}}}}},
+    {1, {0, {0}, {0x03, 1, 1, {5, -3, 2, 7}, 1, 13, {{13, "0000", "0000"}}}}},
+    {1, {0, {0}, {0x03, 1, 2, {5, -3, 2, 7}, 1, 11, {{11, "0000", "0000"}}}}},
+    {1, {0, {0}, {0x03, 1, 4, {5, -3, 2, 7}, 1, 11, {{11, "0000", "0000"}}}}},
+    {2, {0, {0}, {0x03, 2, 4, {5, -3, 2, 7}, 2, 11, {{11, "0000", "0000"}, {3, "0011", "0101"}}}}},
+    {1, {0, {0}, {0x03, 4, 4, {5, -3, 2, 7}, 4, 11,
+         {{11, "0000", "0000"}, {3, "0011", "0101"}, {-3, "0010", "1010"}, {-11, "0001", "1111"}}}}},
+    {255, {0, {0}, {0x03, 4, 4, {5, -3, 2, 7}, 4, 11,
+         {{11, "0000", "0000"}, {3, "0011", "0101"}, {-3, "0010", "1010"}, {-11, "0001", "1111"}}}}},
+    /* Nothing frozen: the word that the signs favour. */
+    {128, {0, {0}, {0x00, 1, 4, {-1, 1, -1, 1}, 1, 4, {{4, "0010", "1010"}}}}},
+    /* Frozen 0, 2 and 3: the bit at 2 is that at 1, the bit at 3 the sum of both. */
+    {1, {12, {2, 0, 1, 0, 3, 0, 1, 0, 3, 0, 2, 0},
+         {0x0d, 2, 4, {5, -3, 2, 7}, 2, 13, {{13, "0110", "0110"}, {11, "0000", "0000"}}}}},
+};
+
 static int row_is(const struct decoder_outputs *out, size_t r, int32_t score, const char *input, const char *word)
 {
     int same = out->scores[r] == score;
@@ -74,10 +97,11 @@ static int row_is(const struct decoder_outputs *out, size_t r, int32_t score, co
     return same;
 }
 
-static void check_rows(const struct example *e, const uint8_t *pairs, size_t pairs_len)
+static void check_rows(const struct example *e, uint8_t arikan, const uint8_t *pairs, size_t pairs_len)
 {
     struct decoder_call c;
     decoder_call_good(&c, 2, CODE_OPEN, SOFT_ZERO, e->list_size, e->stop);
+    c.arikan = arikan;
     c.map[0] = e->map;
     c.pairs.len = pairs_len;
     if (pairs_len > 0)
@@ -172,26 +196,29 @@ static void check_refused_pairs(const struct refused_pairs *e)
     decoder_check_as(&c, 2, e->refusal);
 }
 
-static void check_largest(void)
+static void check_largest(int arikan)
 {
     struct decoder_call c;
     decoder_call_good(&c, 10, CODE_SHUT, SOFT_SMALL, 32, 1024);
+    c.arikan = draw_flag(arikan);
     decoder_check(&c, 10);
     if (decoder_check_outputs().rows != 1)
         decoder_check_fail(&c, "k = 0 does not give one row");
     decoder_call_good(&c, 10, CODE_FEW_CLEAR, SOFT_SMALL, 32, 1024);
+    c.arikan = draw_flag(arikan);
     decoder_call_trim(&c);
     decoder_check(&c, 10);
 }
 
 /* The least and the largest score of all: every soft value at one end, against the
  * word of zeros or for it. */
-static void check_ends(uint32_t m)
+static void check_ends(uint32_t m, int arikan)
 {
     static const int16_t ends[3] = {-2048, -2047, 2047};
     for (size_t end = 0; end < 3; end++) {
         struct decoder_call c;
         decoder_call_good(&c, m, CODE_SHUT, SOFT_ZERO, 1, (uint32_t)1 << m);
+        c.arikan = draw_flag(arikan);
         for (size_t i = 0; i < c.soft_len; i++)
             c.soft[i] = ends[end];
         decoder_check(&c, m);
@@ -204,14 +231,21 @@ static void check_ends(uint32_t m)
 void decoder_examples(void)
 {
     for (size_t i = 0; i < sizeof examples / sizeof examples[0]; i++)
-        check_rows(&examples[i], NULL, 0);
+        check_rows(&examples[i], 0, NULL, 0);
     for (size_t i = 0; i < sizeof paired / sizeof paired[0]; i++)
-        check_rows(&paired[i].block, paired[i].pairs, paired[i].pairs_len);
+        check_rows(&paired[i].block, 0, paired[i].pairs, paired[i].pairs_len);
+    for (size_t i = 0; i < sizeof arikan_examples / sizeof arikan_examples[0]; i++) {
+        const struct paired_example *e = &arikan_examples[i].call;
+        check_rows(&e->block, arikan_examples[i].arikan, e->pairs, e->pairs_len);
+    }
     for (size_t i = 0; i < sizeof refused / sizeof refused[0]; i++)
         check_refusal(&refused[i]);
     for (size_t i = 0; i < sizeof refused_pairs / sizeof refused_pairs[0]; i++)
         check_refused_pairs(&refused_pairs[i]);
-    check_largest();
-    for (uint32_t m = DECODER_MIN_M; m <= DECODER_MAX_M; m++)
-        check_ends(m);
+    check_largest(0);
+    check_largest(1);
+    for (uint32_t m = DECODER_MIN_M; m <= DECODER_MAX_M; m++) {
+        check_ends(m, 0);
+        check_ends(m, 1);
+    }
 }

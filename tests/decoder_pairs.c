@@ -16,11 +16,12 @@ static void try_pair(struct decoder_call *c, size_t f, size_t e)
     decoder_check_as(c, c->m, good ? 0 : 15);
 }
 
-static void try_pairs_of_4(void)
+static void try_pairs_of_4(int arikan)
 {
     struct decoder_call c;
     for (unsigned i = 0; i < 16 * 36; i++) {
         decoder_call_good(&c, 2, CODE_OPEN, SOFT_SMALL, 1 + i % 4, 4);
+        c.arikan = draw_flag(arikan);
         c.map[0] = (uint8_t)(i / 36);
         try_pair(&c, i % 36 / 6, i % 6);
     }
@@ -64,8 +65,8 @@ static void try_fault(uint32_t m, enum pair_fault fault)
 
 void try_decoder_pairs(uint32_t m, unsigned long rounds)
 {
-    if (m == 2)
-        try_pairs_of_4();
+    for (int arikan = 0; m == 2 && arikan < 2; arikan++)
+        try_pairs_of_4(arikan);
     for (unsigned long round = 0; round <= rounds; round++) {
         for (int kind = 0; kind < PAIR_KINDS; kind++)
             try_kind(m, (enum pair_kind)kind);

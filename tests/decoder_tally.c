@@ -29,10 +29,17 @@ static const struct range {
 } ranges[] = {{2, 5}, {6, 8}, {9, 10}};
 enum { RANGES = sizeof ranges / sizeof ranges[0] };
 
-static unsigned long calls, answers[DECODER_MAX_M + 1][DECODER_ANSWERS]; /* place 0: accepted */
-static unsigned long stops[DECODER_MAX_M + 1][(1 << ALL_STOPS_M) + 1];
-static unsigned long ceilings[DECODER_MAX_M + 1][CEILINGS], pair_events[DECODER_MAX_M + 1][PAIR_EVENTS];
-static unsigned long list_sizes[RANGES][DECODER_MAX_LIST + 1], events[RANGES][EVENTS];
+/* What came by one transform. */
+struct count {
+    unsigned long calls;
+    unsigned long answers[DECODER_MAX_M + 1][DECODER_ANSWERS]; /* place 0: accepted */
+    unsigned long stops[DECODER_MAX_M + 1][(1 << ALL_STOPS_M) + 1];
+    unsigned long ceilings[DECODER_MAX_M + 1][CEILINGS], pair_events[DECODER_MAX_M + 1][PAIR_EVENTS];
+    unsigned long events[RANGES][EVENTS];
+};
+static struct count counts[2]; /* by the convolutional transform, by Arikan's */
+static unsigned long list_sizes[RANGES][DECODER_MAX_LIST + 1];
+static unsigned long other_yes[DECODER_MAX_M + 1]; /* accepted, with a byte above 1 for Arikan's */
 
 static size_t stop_kinds(uint32_t m)
 {
@@ -54,10 +61,9 @@ static size_t ceiling_kind(const struct decoder_call *c, int32_t ceiling, int32_
     return ceiling > first_score ? ABOVE : c->stop < (uint32_t)1 << c->m ? EQUAL : EQUAL_AT_N;
 }
 
-static void tally_pairs(const struct decoder_call *c, const struct decoder_outputs *out)
+static void tally_pairs(const struct decoder_call *c, const struct decoder_outputs *out, unsigned long *met)
 {
     size_t n = (size_t)1 << c->m;
-    unsigned long *met = pair_events[c->m];
     int ones = 0, apart = 0;
     for (size_t i = 0; i < c->stop; i++)
         for (size_t r = 0; reference_frozen(c->map, i) && r < out->rows; r++) {
@@ -70,59 +76,70 @@ static void tally_pairs(const struct decoder_call *c, const struct decoder_outpu
     met[SUMS_DIFFER] += (unsigned long)apart;
 }
 
-static void tally_accepted(const struct decoder_call *c, const struct decoder_outputs *out)
+static void tally_accepted(const struct decoder_call *c, const struct decoder_outputs *out, struct count *count)
 {
     size_t n = (size_t)1 << c->m, clear = reference_clear(c->map, n), range = 0;
     while (c->m > ranges[range].last)
         range++;
-    stops[c->m][stop_kind(c->m, c->stop)]++;
-    ceilings[c->m][ceiling_kind(c, out->ceiling, out->scores[0])]++;
-    tally_pairs(c, out);
+    count->stops[c->m][stop_kind(c->m, c->stop)]++;
+    count->ceilings[c->m][ceiling_kind(c, out->ceiling, out->scores[0])]++;
+    tally_pairs(c, out, count->pair_events[c->m]);
+    other_yes[c->m] += c->arikan > 1;
     list_sizes[range][c->list_size]++;
-    events[range][clear == 0 ? ALL_FROZEN : clear == n ? NONE_FROZEN : SOME_FROZEN]++;
-    events[range][CUTS] += (unsigned long)decoder_drops(c);
+    count->events[range][clear == 0 ? ALL_FROZEN : clear == n ? NONE_FROZEN : SOME_FROZEN]++;
+    count->events[range][CUTS] += (unsigned long)decoder_drops(c);
     int ties = 0;
     for (size_t r = 1; r < out->rows; r++)
         ties |= out->scores[r] == out->scores[r - 1];
-    events[range][TIES] += (unsigned long)ties;
+    count->events[range][TIES] += (unsigned long)ties;
 }
 
 void decoder_tally(const struct decoder_call *c, uint32_t sizes_of, const struct decoder_outputs *out)
 {
-    calls++;
-    answers[sizes_of][c->refusal]++;
+    struct count *count = &counts[c->arikan != 0];
+    count->calls++;
+    count->answers[sizes_of][c->refusal]++;
     if (c->refusal == 0)
-        tally_accepted(c, out);
+        tally_accepted(c, out, count);
 }
 
 unsigned long decoder_tally_calls(void)
 {
-    return calls;
+    return counts[0].calls + counts[1].calls;
+}
+
+unsigned long decoder_tally_arikan_calls(void)
+{
+    return counts[1].calls;
 }
 
 /* ---- the report */
 
+/* Prints what both transforms have together; 1 if each has some. */
+static int print_both(int width, unsigned long x, unsigned long y)
+{
+    printf(" %*lu", width, x + y);
+    return x > 0 && y > 0;
+}
+
 static int report_answers(uint32_t m)
 {
-    int reached = answers[m][0] > 0;
-    printf("%2lu %8lu", (unsigned long)m, answers[m][0]);
+    const struct count *x = &counts[0], *y = &counts[1];
+    printf("%2lu", (unsigned long)m);
+    int reached = print_both(8, x->answers[m][0], y->answers[m][0]);
     for (size_t j = 0; j < DECODER_REFUSALS; j++) {
         uint32_t number = decoder_order[j];
         int possible = number != 3 || m == 2; /* only n = 4 leaves map bits past n */
-        reached &= !possible || answers[m][number] > 0;
-        printf(" %5lu", answers[m][number]);
+        reached &= print_both(5, x->answers[m][number], y->answers[m][number]) || !possible;
     }
     for (size_t kind = 0; kind < stop_kinds(m); kind++)
-        reached &= stops[m][kind] > 0;
-    for (size_t kind = 0; kind < CEILINGS; kind++) {
-        printf(" %5lu", ceilings[m][kind]);
-        reached &= ceilings[m][kind] > 0;
-    }
-    for (size_t event = 0; event < PAIR_EVENTS; event++) {
-        printf(" %5lu", pair_events[m][event]);
-        reached &= pair_events[m][event] > 0;
-    }
-    printf("%s\n", reached ? "" : "  NOT ALL REACHED");
+        reached &= x->stops[m][kind] > 0 && y->stops[m][kind] > 0;
+    for (size_t kind = 0; kind < CEILINGS; kind++)
+        reached &= print_both(5, x->ceilings[m][kind], y->ceilings[m][kind]);
+    for (size_t event = 0; event < PAIR_EVENTS; event++)
+        reached &= print_both(5, x->pair_events[m][event], y->pair_events[m][event]);
+    reached &= other_yes[m] > 0;
+    printf(" %6lu %5lu%s\n", y->answers[m][0], other_yes[m], reached ? "" : "  NOT ALL REACHED");
     return reached;
 }
 
@@ -139,8 +156,8 @@ static int report_range(size_t range)
     printf("m %lu to %lu: %lu accepted, %zu list sizes; with", (unsigned long)ranges[range].first,
            (unsigned long)ranges[range].last, accepted, seen);
     for (size_t event = 0; event < EVENTS; event++) {
-        printf("%s %s %lu", event == 0 ? "" : ",", event_name[event], events[range][event]);
-        reached &= events[range][event] > 0;
+        printf("%s %s", event == 0 ? "" : ",", event_name[event]);
+        reached &= print_both(1, counts[0].events[range][event], counts[1].events[range][event]);
     }
     printf("%s\n", reached ? "" : "  NOT ALL REACHED");
     return reached;
@@ -156,12 +173,13 @@ int decoder_tally_report(void)
         printf(" %5s", ceiling_name[kind]);
     for (size_t event = 0; event < PAIR_EVENTS; event++)
         printf(" %5s", pair_name[event]);
-    printf("\n");
+    printf(" %6s %5s\n", "arikan", "other");
     for (uint32_t m = DECODER_MIN_M; m <= DECODER_MAX_M; m++)
         reached &= report_answers(m);
     printf("ceilings with prefixes dropped: above the first score, equal to it below stop n, equal to it at n (best);\n"
            "with none dropped: whole. Pairs: none, some, 256 or all that can be (full); a row with a 1 at a frozen\n"
-           "position (sums), and there a 0 in another row (apart)\n");
+           "position (sums), and there a 0 in another row (apart). Accepted by Arikan's transform, and those of them\n"
+           "that ask for it by another byte than 1 (other)\n");
     for (size_t range = 0; range < RANGES; range++)
         reached &= report_range(range);
     return reached;

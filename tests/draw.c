@@ -34,3 +34,10 @@ void draw_bytes(uint8_t *to, size_t len)
         len -= part;
     }
 }
+
+/* Bytes of which only the lowest bit, only another one or every bit is set. */
+uint8_t draw_flag(int yes)
+{
+    const uint8_t bytes[6] = {1, 1, 2, 128, 255, (uint8_t)(1 + draw_below(255))};
+    return yes ? bytes[draw_below(6)] : 0;
+}

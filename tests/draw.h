@@ -15,4 +15,7 @@ size_t draw_below(size_t n);
 
 void draw_bytes(uint8_t *to, size_t len);
 
+/* A yes or no as a call from C takes it: 0 for no, any other byte for yes. */
+uint8_t draw_flag(int yes);
+
 #endif

@@ -16,7 +16,7 @@ void bits_of(size_t number, size_t len, uint8_t *bits)
         bits[i] = (uint8_t)(number >> (len - 1 - i) & 1);
 }
 
-int32_t enumerated_score(size_t n, const int16_t *soft, const uint8_t *prefix, size_t len)
+int32_t enumerated_score(size_t n, uint8_t arikan, const int16_t *soft, const uint8_t *prefix, size_t len)
 {
     uint8_t u[REFERENCE_MAX_N], word[REFERENCE_MAX_N];
     int32_t most = INT32_MIN;
@@ -24,7 +24,7 @@ int32_t enumerated_score(size_t n, const int16_t *soft, const uint8_t *prefix, s
         memcpy(u, prefix, len);
     for (size_t rest = 0; rest < (size_t)1 << (n - len); rest++) {
         bits_of(rest, n - len, u + len);
-        reference_transform(n, u, word);
+        reference_transform(n, arikan, u, word);
         most = larger(most, paper_correlation(n, soft, word));
     }
     return most;
@@ -50,7 +50,7 @@ static size_t frozen_bit(const struct enumerated_code *code, size_t at, const ui
 void enumerated_lists(const struct enumerated_code *code, size_t l, const int16_t *soft, struct step *steps)
 {
     size_t n = code->n;
-    steps[0] = (struct step){1, 1, {{0, enumerated_score(n, soft, NULL, 0)}}};
+    steps[0] = (struct step){1, 1, {{0, enumerated_score(n, code->arikan, soft, NULL, 0)}}};
     for (size_t at = 0; at < n; at++) {
         const struct step *from = &steps[at];
         struct step *to = &steps[at + 1];
@@ -62,7 +62,8 @@ void enumerated_lists(const struct enumerated_code *code, size_t l, const int16_
                 bits_of(prefix, at + 1, u);
                 if (code->frozen[at] && bit != frozen_bit(code, at, u))
                     continue;
-                to->child[to->count++] = (struct entry){prefix, enumerated_score(n, soft, u, at + 1)};
+                int32_t score = enumerated_score(n, code->arikan, soft, u, at + 1);
+                to->child[to->count++] = (struct entry){prefix, score};
             }
         }
         qsort(to->child, to->count, sizeof to->child[0], compare_entries);
@@ -86,7 +87,7 @@ int32_t enumerated_best(const struct enumerated_code *code, const int16_t *soft)
         bits_of(number, code->n, u);
         if (!enumerated_member(code, u))
             continue;
-        reference_transform(code->n, u, word);
+        reference_transform(code->n, code->arikan, u, word);
         most = larger(most, paper_correlation(code->n, soft, word));
     }
     return most;

@@ -6,6 +6,7 @@
 #define ENUMERATION_H
 
 #include "paper_decoder.h"
+#include "paper_score.h"
 
 /* Lists and best words are enumerated for codes of no more positions. */
 enum { ENUMERATED_MAX_N = 16 };
@@ -18,7 +19,7 @@ int32_t larger(int32_t x, int32_t y);
 void bits_of(size_t number, size_t len, uint8_t *bits);
 
 /* The score of a prefix, by trying every completion. */
-int32_t enumerated_score(size_t n, const int16_t *soft, const uint8_t *prefix, size_t len);
+int32_t enumerated_score(size_t n, uint8_t arikan, const int16_t *soft, const uint8_t *prefix, size_t len);
 
 /* A prefix as a number. */
 struct entry {
@@ -37,6 +38,7 @@ struct step {
  * those at all j for which follows[i][j] is 1. */
 struct enumerated_code {
     size_t n;
+    uint8_t arikan; /* which transform it has */
     uint8_t frozen[ENUMERATED_MAX_N], follows[ENUMERATED_MAX_N][ENUMERATED_MAX_N];
 };
 

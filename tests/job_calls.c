@@ -10,7 +10,7 @@ const char *const job_kind_name[JOB_KINDS] = {
     [JOB_CUT] = "cut",
     [JOB_LONGER] = "too long",
     [JOB_BEYOND] = "above 4096 bytes",
-    [JOB_BAD_FIELD_MAP] = "bits 4 to 7 of the first byte",
+    [JOB_BAD_FIELD_MAP] = "bits 5 to 7 of the first byte",
     [JOB_BAD_M] = "m out of range",
     [JOB_LAID_OUT_FOR_BAD_M] = "m out of range, as long as it asks for",
     [JOB_CUT_AT_COUNT] = "ends before or inside the number of pairs",
@@ -47,7 +47,7 @@ static void put(struct job_record *r, uint32_t number, size_t count)
 void job_pack(struct job_record *r)
 {
     r->len = 0;
-    put(r, r->fields, 1);
+    put(r, r->fields + JOB_ARIKAN * r->arikan, 1);
     put(r, r->m, 1);
     if (r->fields & JOB_LIST_SIZE)
         put(r, r->list_size, 1);
@@ -112,6 +112,7 @@ void job_good(struct job_record *r, uint32_t m, unsigned fields, unsigned plain)
     unsigned drawn = fields & ~plain;
     r->kind = JOB_GOOD;
     r->fields = fields;
+    r->arikan = (uint32_t)draw_below(2);
     r->m = m;
     r->list_size = drawn & JOB_LIST_SIZE ? 1 + (uint32_t)draw_below(JOB_MAX_LIST) : 4;
     r->stop = drawn & JOB_STOP ? among(stops, 6) : n;
@@ -186,9 +187,9 @@ static void make_cut_at_count(struct job_record *r)
 
 static void make_one_byte(struct job_record *r)
 {
-    r->bytes[0] = (uint8_t)(draw_below(2) ? draw_below(JOB_FIELD_SETS) : draw_below(256));
+    r->bytes[0] = (uint8_t)(draw_below(2) ? draw_below(JOB_FIRST_BYTES) : draw_below(256));
     r->len = 1;
-    r->refusal = r->bytes[0] < JOB_FIELD_SETS ? 13 : 14;
+    r->refusal = r->bytes[0] < JOB_FIRST_BYTES ? 13 : 14;
 }
 
 /* The faults of a kind, for those that are a good record with faults. */

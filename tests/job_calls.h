@@ -15,13 +15,15 @@ enum { JOB_MIN_M = 2, JOB_MAX_M = 10, JOB_MAX_LIST = 32 };
 /* No record is longer. */
 enum { JOB_ROOM = 8192 };
 
-/* The four fields that may be present; the bits of a record's first byte. */
+/* The four fields that may be present; the bits of a record's first byte. Behind them stands
+ * the bit for Arikan's transform, which is no field. Other bytes than these are refused. */
 enum { JOB_LIST_SIZE = 1, JOB_STOP = 2, JOB_FRAME = 4, JOB_PAIRS = 8, JOB_FIELD_SETS = 16 };
+enum { JOB_ARIKAN = 16, JOB_FIRST_BYTES = 32 };
 
 /* What can be wrong with a record, first one first, as the rules have the refusals; but 13
  * comes before FAULT_COUNT if the record ends before or inside the number of pairs. */
 enum {
-    FAULT_FIELD_MAP = 1,  /* 14: one of bits 4 to 7 of the first byte, or several */
+    FAULT_FIELD_MAP = 1,  /* 14: one of bits 5 to 7 of the first byte, or several */
     FAULT_M = 2,          /* 1 */
     FAULT_COUNT = 4,      /* 15: number of pairs above 256 */
     FAULT_LENGTH = 8,     /* 13: cut or longer */
@@ -63,6 +65,7 @@ enum { JOB_UNKNOWN = 99 };
 struct job_record {
     enum job_kind kind;
     unsigned fields; /* which are present */
+    uint32_t arikan; /* 1 for Arikan's transform, else 0 */
     uint32_t m, list_size, stop, frame;
     uint8_t map[256]; /* this and soft have room for the n of m = 11 */
     struct pairs pairs;
@@ -74,7 +77,7 @@ struct job_record {
 };
 
 /* A good record with these fields, those in plain with the value that they would have
- * when absent. */
+ * when absent, and with either transform. */
 void job_good(struct job_record *r, uint32_t m, unsigned fields, unsigned plain);
 
 /* Pairs of a kind, by the record's map, and their number; the bytes are not written anew. */

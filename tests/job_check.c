@@ -16,8 +16,8 @@ _Static_assert(CALDURREX_BAD_M == 1 && CALDURREX_BAD_MAP_BIT == 3 && CALDURREX_B
                "the header names the refusals by the numbers of the rules");
 
 _Static_assert(offsetof(struct caldurrex_job, frame) == 16 && offsetof(struct caldurrex_job, pairs) == 20 &&
-                   sizeof(struct caldurrex_job) == 24,
-               "the answer is six numbers of 32 bits");
+                   offsetof(struct caldurrex_job, arikan) == 24 && sizeof(struct caldurrex_job) == 28,
+               "the answer is seven numbers of 32 bits");
 
 /* Room for the longest slices tried, with something left over for guard zones. */
 enum { MAP_ROOM = 4096, SOFT_ROOM = 8192, THIRD_ROOM = 4096, RECORD_ROOM = JOB_ROOM + 4096 };
@@ -29,7 +29,13 @@ enum { NO_FIELD, COUNT_OF_0, SOME_PAIRS, FULL_PAIRS, LONGER_SLICE, SHORT_SLICE, 
 
 static struct lent record, map, soft, pairs;
 static const struct job_record *under_way;
-static unsigned long seed, calls, tally[ROWS][ANSWERS], events[ROWS][EVENTS];
+static unsigned long seed, calls, arikan_calls;
+
+/* What came with records made for one transform. */
+struct count {
+    unsigned long answers[ANSWERS], events[EVENTS];
+};
+static struct count counts[ROWS][2]; /* for the convolutional transform, for Arikan's */
 
 static void fail(const struct job_record *r, const char *what)
 {
@@ -68,7 +74,7 @@ void job_check_open(unsigned long seed_used)
 static int same_answer(const struct caldurrex_job *x, const struct reference_job *y)
 {
     return x->refusal == y->refusal && x->m == y->m && x->list_size == y->list_size && x->stop == y->stop &&
-           x->frame == y->frame && x->pairs == y->pairs;
+           x->frame == y->frame && x->pairs == y->pairs && x->arikan == y->arikan;
 }
 
 /* What the making of the record tells: the refusal, or the fields. */
@@ -79,7 +85,7 @@ static struct reference_job made(const struct job_record *r)
     if (r->refusal == 0 && (map.len < job_map_len(r->m) || soft.len / 2 < n || pairs.len < r->pairs.len))
         job.refusal = 10;
     if (job.refusal == 0)
-        job = (struct reference_job){0, r->m, r->list_size, r->stop, r->frame, r->count};
+        job = (struct reference_job){0, r->m, r->list_size, r->stop, r->frame, r->count, r->arikan};
     return job;
 }
 
@@ -89,14 +95,15 @@ static void judge_answer(const struct job_record *r, const struct caldurrex_job 
     struct reference_job by_making = r->refusal == JOB_UNKNOWN ? *right : made(r);
     if (same_answer(answer, right) && same_answer(answer, &by_making))
         return;
-    const struct reference_job was = {answer->refusal, answer->m,     answer->list_size,
-                                      answer->stop,    answer->frame, answer->pairs};
+    const struct reference_job was = {answer->refusal, answer->m,     answer->list_size, answer->stop,
+                                      answer->frame,   answer->pairs, answer->arikan};
     const struct reference_job *all[3] = {&was, &by_making, right};
     static const char *const whose[3] = {"by the library", "by construction", "by the reference"};
     for (size_t i = 0; i < 3; i++)
-        printf("  %s: refusal %lu, m %lu, list size %lu, stop %lu, frame %lu, pairs %lu\n", whose[i],
+        printf("  %s: refusal %lu, m %lu, list size %lu, stop %lu, frame %lu, pairs %lu, arikan %lu\n", whose[i],
                (unsigned long)all[i]->refusal, (unsigned long)all[i]->m, (unsigned long)all[i]->list_size,
-               (unsigned long)all[i]->stop, (unsigned long)all[i]->frame, (unsigned long)all[i]->pairs);
+               (unsigned long)all[i]->stop, (unsigned long)all[i]->frame, (unsigned long)all[i]->pairs,
+               (unsigned long)all[i]->arikan);
     fail(r, "the answer differs");
 }
 
@@ -146,7 +153,7 @@ static void judge(const struct job_record *r, const struct caldurrex_job *answer
 static void count_pairs(const struct job_record *r, uint32_t answer)
 {
     size_t n = (size_t)1 << r->m;
-    unsigned long *met = events[r->m];
+    unsigned long *met = counts[r->m][r->arikan].events;
     if (answer == 10)
         met[SHORT_SLICE] += map.len >= job_map_len(r->m) && soft.len / 2 >= n;
     if (answer != 0)
@@ -163,12 +170,13 @@ void job_check(const struct job_record *r, size_t map_len, size_t soft_len, size
     lent_place_aligned(&soft, NULL, soft_len * sizeof r->soft[0], sizeof r->soft[0]);
     lent_place(&pairs, NULL, pairs_len);
     calls++;
+    arikan_calls += r->arikan;
     under_way = r;
     struct caldurrex_job answer = caldurrex_read_job(record.at, record.len, map.at, map_len,
                                                      (int16_t *)(void *)soft.at, soft_len, pairs.at, pairs_len);
     under_way = NULL;
     judge(r, &answer);
-    tally[r->m][answer.refusal]++;
+    counts[r->m][r->arikan].answers[answer.refusal]++;
     if (r->refusal == 0)
         count_pairs(r, answer.refusal);
 }
@@ -185,23 +193,31 @@ unsigned long job_check_count(void)
     return calls;
 }
 
+unsigned long job_check_arikan_count(void)
+{
+    return arikan_calls;
+}
+
 /* ---- the report */
 
+/* Of both transforms together, but for the last column. */
 static int print_row(uint32_t m)
 {
     static const uint32_t columns[] = {0, 1, 3, 15, 4, 5, 7, 10, 13, 14};
+    const struct count *x = &counts[m][0], *y = &counts[m][1];
     int reached = 1;
     printf("%2lu", (unsigned long)m);
     for (size_t i = 0; i < sizeof columns / sizeof columns[0]; i++) {
+        unsigned long first = x->answers[columns[i]], second = y->answers[columns[i]];
         int possible = columns[i] != 3 || m == 2; /* only n = 4 leaves map bits past n */
-        reached &= !possible || tally[m][columns[i]] > 0;
-        printf(i == 0 ? " %9lu" : " %6lu", tally[m][columns[i]]);
+        reached &= !possible || (first > 0 && second > 0);
+        printf(i == 0 ? " %9lu" : " %6lu", first + second);
     }
     for (size_t event = 0; event < EVENTS; event++) {
-        reached &= events[m][event] > 0;
-        printf(" %6lu", events[m][event]);
+        reached &= x->events[event] > 0 && y->events[event] > 0;
+        printf(" %6lu", x->events[event] + y->events[event]);
     }
-    printf("%s\n", reached ? "" : "  NOT ALL REACHED");
+    printf(" %6lu%s\n", y->answers[0], reached ? "" : "  NOT ALL REACHED");
     return reached;
 }
 
@@ -210,10 +226,10 @@ int job_check_report(void)
     int reached = 1;
     printf("%2s %9s %6s %6s %6s %6s %6s %6s", "m", "accepted", "1", "3", "15", "4", "5", "7");
     printf(" %6s %6s %6s", "10", "13", "14");
-    printf(" %6s %6s %6s %6s %6s %6s\n", "none", "0", "pairs", "full", "longer", "short");
+    printf(" %6s %6s %6s %6s %6s %6s %6s\n", "none", "0", "pairs", "full", "longer", "short", "arikan");
     for (uint32_t m = JOB_MIN_M; m <= JOB_MAX_M; m++)
         reached &= print_row(m);
     printf("accepted: without pairs, with the number 0, with some, with 256 or all that can be (full), with a longer\n"
-           "slice for them; refused: 10 for their slice alone (short)\n");
+           "slice for them; refused: 10 for their slice alone (short); accepted with Arikan's transform\n");
     return reached;
 }

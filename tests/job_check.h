@@ -19,13 +19,15 @@ void job_check(const struct job_record *r, size_t map_len, size_t soft_len, size
  * are long enough. */
 void job_check_as(struct job_record *r, uint32_t refusal);
 
+/* All calls, and those with a record made for Arikan's transform. */
 unsigned long job_check_count(void);
+unsigned long job_check_arikan_count(void);
 
-/* Prints how often each answer came. Gives 0 if, for records made for some m, a refusal
- * that they can have never came, none was read, or something of pairs was never met: a record
- * without the field, with the number 0, with pairs, with 256 of them (or all that a map allows,
- * where n is too small for that); a slice for them that was too short, the others not; one
- * that was longer than they are. */
+/* Prints how often each answer came. Gives 0 if, for records made for some m and for one of
+ * both transforms, a refusal that they can have never came, none was read, or something of
+ * pairs was never met: a record without the field, with the number 0, with pairs, with 256 of
+ * them (or all that a map allows, where n is too small for that); a slice for them that was
+ * too short, the others not; one that was longer than they are. */
 int job_check_report(void);
 
 #endif

@@ -139,6 +139,6 @@ void job_spoil(struct job_record *r, unsigned faults)
     if (faults & FAULT_M)
         r->bytes[1] = (uint8_t)bad_m();
     if (faults & FAULT_FIELD_MAP)
-        r->bytes[0] |= (uint8_t)(draw_below(2) ? 16u << draw_below(4) : 16 * (1 + draw_below(15)));
+        r->bytes[0] |= (uint8_t)(draw_below(2) ? 32u << draw_below(3) : 32 * (1 + draw_below(7)));
     r->refusal = first_refusal(r, faults);
 }

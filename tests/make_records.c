@@ -94,7 +94,7 @@ static void make_word(const struct block *b, size_t n, const uint8_t *map, const
         int bit = draw_number() % 2;
         input[i] = reference_frozen(map, i) ? reference_frozen_bit(pairs, 4 * b->pairs, i, input) : (uint8_t)bit;
     }
-    reference_transform(n, input, word);
+    reference_transform(n, b->arikan, input, word);
 }
 
 /* From -most to most. */
@@ -136,7 +136,7 @@ static void make_block(const struct block *b, uint32_t frame, struct record *r)
     make_pairs(b, n, map, pairs);
     make_word(b, n, map, pairs, word);
     r->len = 0;
-    put(r, b->pairs > 0 ? 15 : 7, 1);
+    put(r, (b->pairs > 0 ? 15 : 7) + 16u * b->arikan, 1);
     put(r, b->m, 1);
     put(r, b->list, 1);
     put(r, b->stop, 2);
@@ -183,8 +183,8 @@ static void print_rows(const struct record *r)
         return;
     }
     struct paper_decoded block =
-        paper_decode(job.m, map, (n + 7) / 8, pairs, 4 * job.pairs, job.list_size, job.stop, soft, n, numbers,
-                     sizeof numbers / sizeof numbers[0], bytes, sizeof bytes, inputs, sizeof inputs, words,
+        paper_decode(job.m, (uint8_t)job.arikan, map, (n + 7) / 8, pairs, 4 * job.pairs, job.list_size, job.stop, soft,
+                     n, numbers, sizeof numbers / sizeof numbers[0], bytes, sizeof bytes, inputs, sizeof inputs, words,
                      sizeof words, scores, MAX_LIST);
     if (block.refusal) {
         fprintf(stderr, "a record is read and its block is refused: %u\n", (unsigned)block.refusal);

@@ -1,8 +1,8 @@
 /*
  * The list decoder written from the rules alone, to compare the library with. It
- * shares no code or table with it: scores are the signed maxima of the rules, each
- * worked out anew from the soft values, and nothing goes from one position to the
- * next but the live prefixes and the highest score dropped so far.
+ * shares no code or table with it: scores are those of paper_score.h, and nothing goes
+ * from one position to the next but the live prefixes and the highest score dropped so
+ * far.
  */
 #ifndef PAPER_DECODER_H
 #define PAPER_DECODER_H
@@ -12,19 +12,6 @@
 
 enum { PAPER_MAX_LIST = 32 };
 
-/* A soft value is refused below -2,048 and above 2,047. */
-int paper_out_of_range(int16_t soft);
-
-/* A soft value as it is taken: full scale is -2,047. */
-int16_t paper_taken(int16_t soft);
-
-/* The correlation of a word of n bits with n soft values. */
-int32_t paper_correlation(size_t n, const int16_t *soft, const uint8_t *word);
-
-/* The score of the first len bits of prefix: the largest correlation over all
- * inputs of n bits that begin with them. n is a power of two up to 1024. */
-int32_t paper_score(size_t n, const int16_t *soft, const uint8_t *prefix, size_t len);
-
 /* 0, the row count and the ceiling, or the refusal number and 0 in the other two. */
 struct paper_decoded {
     uint32_t refusal, rows;
@@ -32,7 +19,7 @@ struct paper_decoded {
 };
 
 /* Takes and answers what caldurrex_decode does. */
-struct paper_decoded paper_decode(uint32_t m, const uint8_t *map, size_t map_len,
+struct paper_decoded paper_decode(uint32_t m, uint8_t arikan, const uint8_t *map, size_t map_len,
                                   const uint8_t *pairs, size_t pairs_len,
                                   uint32_t list_size, uint32_t stop,
                                   const int16_t *soft, size_t soft_len,

@@ -45,7 +45,8 @@ static const struct record examples[] = {
     {12, {0x00, 2, 0x03, SOFT}},                            /* 13: a byte too many */
     {11, {0x20, 2, 0x03, SOFT}},                            /* 14: first byte 20 hex */
     {1, {0x20}},                                            /* 14 before 13 for one byte */
-    {11, {0x10, 2, 0x03, SOFT}},                            /* 14: the lowest bit that is no field */
+    {11, {0x40, 2, 0x03, SOFT}},                            /* 14: the other bits that must be 0 */
+    {11, {0x80, 2, 0x03, SOFT}},
     {3, {0x00, 11, 0x10}},                                  /* 1 before 13 and 3 */
     {14, {0x03, 2, 0, 5, 0, 0x10, 5, 0, 0xff, 0xf7, 2, 0, 7, 0}}, /* 3 before 4, 5 and 7 */
     {14, {0x03, 2, 0, 5, 0, 0x03, 5, 0, 0xff, 0xf7, 2, 0, 7, 0}}, /* 4 before 5 and 7 */
@@ -65,6 +66,16 @@ static const struct record examples[] = {
     {13, {0x08, 2, 0x0d, 1, 0, SOFT}},                      /* 13: a pair is missing */
     {17, {0x08, 2, 0x1d, 1, 0, PAIR(2, 2), SOFT}},          /* 3 before 15 */
     {18, {0x09, 2, 0, 0x0d, 1, 0, PAIR(2, 2), SOFT}},       /* 15 before 4 */
+    {11, {0x10, 2, 0x03, SOFT}},                            /* Arikan's transform, frozen 0 and 1 */
+    {12, {0x11, 2, 2, 0x03, SOFT}},                         /* the sample with it */
+    {12, {0x11, 2, 1, 0x00, 0xff, 0xff, 1, 0, 0xff, 0xff, 1, 0}}, /* nothing frozen, soft values -1, 1, -1, 1 */
+    {13, {0x12, 2, 2, 0, 0x03, SOFT}},                      /* stop position 2 */
+    {26, {0x19, 2, 2, 0x0d, 3, 0, PAIR(2, 1), PAIR(3, 1), PAIR(3, 2), SOFT}}, /* with three pairs */
+    {1, {0x10}},                                            /* 13: one byte */
+    {2, {0x10, 1}},                                         /* 1 before 13 */
+    {5, {0x18, 2, 0x0d, 1, 1}},                             /* 15 for 257 pairs, before 13 */
+    {12, {0x10, 2, 0x03, SOFT}},                            /* 13: a byte too many */
+    {11, {0x30, 2, 0x03, SOFT}},                            /* 14 with it */
 };
 
 enum { EXAMPLES = sizeof examples / sizeof examples[0] };
@@ -80,37 +91,49 @@ static const struct block {
     int limit; /* LIGHT: positions whose number has fewer ones are frozen */
     enum soft soft;
     uint64_t seed;
-    size_t pairs; /* no more than the map allows */
+    size_t pairs;   /* no more than the map allows */
+    uint8_t arikan; /* 1 for Arikan's transform */
 } blocks[] = {
-    {4, 4, 16, HALF, 0, WIDE, 1402385107, 0},
-    {5, 32, 32, OPEN, 0, TIES, 95512873, 0},
-    {6, 8, 64, LIGHT, 3, NOISY, 2013265921, 0},
-    {6, 32, 61, QUARTER, 0, ENDS, 700000001, 0},
-    {7, 16, 64, OPEN, 0, SPARSE, 1234567891, 0},
-    {7, 32, 128, HALF, 0, ZERO, 31415926, 0},
-    {8, 1, 256, MOST, 0, NOISY, 271828182, 0},
-    {8, 32, 253, LIGHT, 4, SMALL, 1618033988, 0},
-    {9, 8, 512, LIGHT, 5, NOISY, 1414213562, 0},
-    {9, 16, 509, MOST, 0, SPARSE, 1732050807, 0},
-    {10, 32, 1024, LIGHT, 5, NOISY, 577215664, 0},
-    {10, 32, 512, HALF, 0, TIES, 915965594, 0},
-    {9, 32, 1, OPEN, 0, WIDE, 1202056903, 0},
-    {10, 32, 0, HALF, 0, ENDS, 1098612288, 0},
-    {10, 32, 1021, FEW, 0, WIDE, 693147180, 0},
-    {10, 3, 1024, OPEN, 0, ENDS, 1644934066, 0},
-    {10, 31, 1024, SHUT, 0, WIDE, 2147483646, 0},
-    {10, 2, 1, QUARTER, 0, SMALL, 1, 0},
-    {3, 32, 8, OPEN, 0, WIDE, 1324717957, 0},
-    {10, 8, 1023, LIGHT, 6, NOISY, 1837877066, 0},
-    {3, 8, 8, HALF, 0, SMALL, 662743419, 3},
-    {4, 4, 16, MOST, 0, NOISY, 1442695040, 20},
-    {5, 32, 32, LIGHT, 4, TIES, 1256431208, 256},
-    {6, 8, 64, LIGHT, 4, NOISY, 2039786, 64},
-    {7, 16, 125, QUARTER, 0, WIDE, 1902160583, 100},
-    {8, 8, 256, LIGHT, 5, NOISY, 110001000, 256},
-    {9, 8, 512, FEW, 0, NOISY, 660161815, 200},
-    {10, 4, 1024, LIGHT, 6, NOISY, 1303577269, 256},
-    {10, 4, 1024, FEW, 0, SMALL, 834626841, 255},
+    {4, 4, 16, HALF, 0, WIDE, 1402385107, 0, 0},
+    {5, 32, 32, OPEN, 0, TIES, 95512873, 0, 0},
+    {6, 8, 64, LIGHT, 3, NOISY, 2013265921, 0, 0},
+    {6, 32, 61, QUARTER, 0, ENDS, 700000001, 0, 0},
+    {7, 16, 64, OPEN, 0, SPARSE, 1234567891, 0, 0},
+    {7, 32, 128, HALF, 0, ZERO, 31415926, 0, 0},
+    {8, 1, 256, MOST, 0, NOISY, 271828182, 0, 0},
+    {8, 32, 253, LIGHT, 4, SMALL, 1618033988, 0, 0},
+    {9, 8, 512, LIGHT, 5, NOISY, 1414213562, 0, 0},
+    {9, 16, 509, MOST, 0, SPARSE, 1732050807, 0, 0},
+    {10, 32, 1024, LIGHT, 5, NOISY, 577215664, 0, 0},
+    {10, 32, 512, HALF, 0, TIES, 915965594, 0, 0},
+    {9, 32, 1, OPEN, 0, WIDE, 1202056903, 0, 0},
+    {10, 32, 0, HALF, 0, ENDS, 1098612288, 0, 0},
+    {10, 32, 1021, FEW, 0, WIDE, 693147180, 0, 0},
+    {10, 3, 1024, OPEN, 0, ENDS, 1644934066, 0, 0},
+    {10, 31, 1024, SHUT, 0, WIDE, 2147483646, 0, 0},
+    {10, 2, 1, QUARTER, 0, SMALL, 1, 0, 0},
+    {3, 32, 8, OPEN, 0, WIDE, 1324717957, 0, 0},
+    {10, 8, 1023, LIGHT, 6, NOISY, 1837877066, 0, 0},
+    {3, 8, 8, HALF, 0, SMALL, 662743419, 3, 0},
+    {4, 4, 16, MOST, 0, NOISY, 1442695040, 20, 0},
+    {5, 32, 32, LIGHT, 4, TIES, 1256431208, 256, 0},
+    {6, 8, 64, LIGHT, 4, NOISY, 2039786, 64, 0},
+    {7, 16, 125, QUARTER, 0, WIDE, 1902160583, 100, 0},
+    {8, 8, 256, LIGHT, 5, NOISY, 110001000, 256, 0},
+    {9, 8, 512, FEW, 0, NOISY, 660161815, 200, 0},
+    {10, 4, 1024, LIGHT, 6, NOISY, 1303577269, 256, 0},
+    {10, 4, 1024, FEW, 0, SMALL, 834626841, 255, 0},
+    {3, 32, 8, OPEN, 0, WIDE, 1324717957, 0, 1},
+    {4, 4, 16, HALF, 0, WIDE, 1402385107, 0, 1},
+    {5, 32, 32, OPEN, 0, TIES, 95512873, 0, 1},
+    {6, 8, 61, LIGHT, 3, NOISY, 2013265921, 0, 1},
+    {7, 16, 125, QUARTER, 0, WIDE, 1902160583, 100, 1},
+    {8, 8, 256, LIGHT, 5, NOISY, 110001000, 256, 1},
+    {9, 16, 509, MOST, 0, SPARSE, 1732050807, 0, 1},
+    {10, 8, 512, HALF, 0, TIES, 915965594, 0, 1},
+    {10, 3, 1024, OPEN, 0, ENDS, 1644934066, 0, 1},
+    {10, 4, 1024, LIGHT, 6, NOISY, 1303577269, 256, 1},
+    {10, 32, 1021, LIGHT, 5, NOISY, 577215664, 0, 1},
 };
 
 enum { BLOCKS = sizeof blocks / sizeof blocks[0] };

@@ -6,14 +6,10 @@
 #ifndef REFERENCE_CODEC_H
 #define REFERENCE_CODEC_H
 
+#include "reference_transform.h"
+
 #include <stddef.h>
 #include <stdint.h>
-
-enum { REFERENCE_MAX_M = 10, REFERENCE_MAX_N = 1 << REFERENCE_MAX_M };
-
-/* c becomes the transform of u; both are n bytes of value 0 or 1, n a power of
- * two up to REFERENCE_MAX_N. */
-void reference_transform(size_t n, const uint8_t *u, uint8_t *c);
 
 /* 1 where position i is frozen. */
 int reference_frozen(const uint8_t *map, size_t i);
@@ -39,16 +35,17 @@ uint8_t reference_frozen_bit(const uint8_t *pairs, size_t pairs_len, size_t i, c
 void reference_input(size_t n, const uint8_t *map, const uint8_t *pairs, size_t pairs_len,
                      const uint8_t *payload, uint8_t *u);
 
-/* The refusals 1, 2, 3 and 15, which every call on a code tests first; 0 if none applies. */
+/* The refusals 1, 2, 3 and 15, which every call on a code tests first, whatever its
+ * transform; 0 if none applies. */
 uint32_t reference_code_refusal(uint32_t m, const uint8_t *map, size_t map_len,
                                 const uint8_t *pairs, size_t pairs_len);
 
-uint32_t reference_encode(uint32_t m, const uint8_t *map, size_t map_len,
+uint32_t reference_encode(uint32_t m, uint8_t arikan, const uint8_t *map, size_t map_len,
                           const uint8_t *pairs, size_t pairs_len,
                           const uint8_t *payload, size_t payload_len,
                           uint8_t *word, size_t word_len);
 
-uint32_t reference_extract(uint32_t m, const uint8_t *map, size_t map_len,
+uint32_t reference_extract(uint32_t m, uint8_t arikan, const uint8_t *map, size_t map_len,
                            const uint8_t *pairs, size_t pairs_len,
                            const uint8_t *word, size_t word_len,
                            uint8_t *payload, size_t payload_len);

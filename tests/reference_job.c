@@ -1,13 +1,14 @@
 #include "reference_job.h"
 
 #include "paper_decoder.h"
+#include "paper_score.h"
 #include "reference_codec.h"
 
 #include <stdio.h>
 #include <string.h>
 
-/* The bits of a record's first byte. */
-enum { HAS_LIST_SIZE = 1, HAS_STOP = 2, HAS_FRAME = 4, HAS_PAIRS = 8, NO_FIELDS = 0xf0 };
+/* The bits of a record's first byte: fields, the transform, and those that must be 0. */
+enum { HAS_LIST_SIZE = 1, HAS_STOP = 2, HAS_FRAME = 4, HAS_PAIRS = 8, IS_ARIKAN = 16, MUST_BE_0 = 0xe0 };
 
 /* The next number of count bytes, low byte first; at goes behind it. */
 static uint32_t take(const uint8_t **at, size_t count)
@@ -27,7 +28,7 @@ static uint32_t shape_refusal(const uint8_t *record, size_t len)
 {
     if (len == 0)
         return 13;
-    if (record[0] & NO_FIELDS)
+    if (record[0] & MUST_BE_0)
         return 14;
     if (len == 1)
         return 13;
@@ -69,6 +70,7 @@ static void take_apart(const uint8_t *record, struct parts *p)
     p->job.list_size = fields & HAS_LIST_SIZE ? take(&at, 1) : 4;
     p->job.stop = fields & HAS_STOP ? take(&at, 2) : (uint32_t)p->n;
     p->job.frame = fields & HAS_FRAME ? take(&at, 4) : 0;
+    p->job.arikan = fields & IS_ARIKAN ? 1 : 0;
     p->map = at;
     p->map_len = (p->n + 7) / 8;
     at += p->map_len;
@@ -142,9 +144,9 @@ static size_t put_rows(const struct reference_job *job, const uint8_t *map, cons
     static int32_t scores[L];
     size_t n = (size_t)1 << job->m, at = 0;
     struct paper_decoded block =
-        paper_decode(job->m, map, (n + 7) / 8, pairs, REFERENCE_PAIR_BYTES * job->pairs, job->list_size, job->stop,
-                     soft, n, numbers, 32 * N * L, bytes, sizeof bytes, inputs, sizeof inputs, words, sizeof words,
-                     scores, L);
+        paper_decode(job->m, (uint8_t)job->arikan, map, (n + 7) / 8, pairs, REFERENCE_PAIR_BYTES * job->pairs,
+                     job->list_size, job->stop, soft, n, numbers, 32 * N * L, bytes, sizeof bytes, inputs,
+                     sizeof inputs, words, sizeof words, scores, L);
     at += (size_t)sprintf(out + at, "frame %lu rows %lu ceiling %ld\n", (unsigned long)job->frame,
                           (unsigned long)block.rows, (long)block.ceiling);
     for (size_t r = 0; r < block.rows; r++) {

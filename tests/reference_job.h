@@ -9,9 +9,10 @@
 #include <stddef.h>
 #include <stdint.h>
 
-/* 0 and the fields, the number of pairs last, or the refusal number and 0 in each field. */
+/* 0 and what the record says, pairs being their number and arikan 1 for Arikan's transform and
+ * else 0; or the refusal number and 0 in all others. */
 struct reference_job {
-    uint32_t refusal, m, list_size, stop, frame, pairs;
+    uint32_t refusal, m, list_size, stop, frame, pairs, arikan;
 };
 
 /* Takes and answers what caldurrex_read_job does. */

@@ -1,6 +1,7 @@
--- What is written for a block: m, list size, stop position, frame number, frozen map, pairs and soft values, whatever they are. Beside it
+-- What is written for a block: m, its transform, list size, stop position, frame number, frozen map, pairs and soft values, whatever they are. Beside it
 -- that a decoder call with the block's tables gives it.
 use mathlib.Core.Path.{_≡_, refl, ap, _∙_}
+use mathlib.Core.Bool.{Bool}
 use mathlib.Core.List.{List, [], _∷_}
 use Prim.Native.Nat.{ℕ, zero, suc, _+_, _*_, _^_, _≤_, _<_}
 use native.Mathlib.Nat.{mul-le-mul}
@@ -34,21 +35,21 @@ decodedText c l p frame y =
     settled (decodeRefusal c l p y blockRoom) refusedText (textOf frame (rows (codeTransform c) c (taken y) l p) (ceiling (codeTransform c) c (taken y) l p))
 
 -- the same behind the tests of n and l, with a map, so many pairs and soft values that stand at the front of slices
-unfoldable pub blockText : ℕ → ℕ → ℕ → ℕ → ℕ → List ℕ → List ℕ → List ℤ → List ℕ
-blockText m l p frame count map pairs y =
+unfoldable pub blockText : ℕ → Bool → ℕ → ℕ → ℕ → ℕ → List ℕ → List ℕ → List ℤ → List ℕ
+blockText m arikan l p frame count map pairs y =
     settled (first (limitFaults (2 ^ m) l)) refusedText
-    (decodedText (code m (take (mapBytes (2 ^ m)) map) (take (4 * count) pairs)) l p frame (take (2 ^ m) y))
+    (decodedText (code m arikan (take (mapBytes (2 ^ m)) map) (take (4 * count) pairs)) l p frame (take (2 ^ m) y))
 
-module _ (m l p frame count : ℕ) (map pairs : List ℕ) (y : List ℤ) where
-  pub too-wide : 64 < 2 ^ m → refusedText 8 ≡ blockText m l p frame count map pairs y
+module _ (m : ℕ) (arikan : Bool) (l p frame count : ℕ) (map pairs : List ℕ) (y : List ℤ) where
+  pub too-wide : 64 < 2 ^ m → refusedText 8 ≡ blockText m arikan l p frame count map pairs y
   unfolding blockText first
   too-wide h = rw (lt-ltb 64 (2 ^ m) h)
 
-  pub too-many : 2 ^ m ≤ 64 → 4 < l → refusedText 8 ≡ blockText m l p frame count map pairs y
+  pub too-many : 2 ^ m ≤ 64 → 4 < l → refusedText 8 ≡ blockText m arikan l p frame count map pairs y
   unfolding blockText first
   too-many h k = rw (le-ltb 64 (2 ^ m) h, lt-ltb 4 l k)
 
-  pub fitting : 2 ^ m ≤ 64 → l ≤ 4 → decodedText (code m (take (mapBytes (2 ^ m)) map) (take (4 * count) pairs)) l p frame (take (2 ^ m) y) ≡ blockText m l p frame count map pairs y
+  pub fitting : 2 ^ m ≤ 64 → l ≤ 4 → decodedText (code m arikan (take (mapBytes (2 ^ m)) map) (take (4 * count) pairs)) l p frame (take (2 ^ m) y) ≡ blockText m arikan l p frame count map pairs y
   unfolding blockText first
   fitting h k = rw (le-ltb 64 (2 ^ m) h, le-ltb 4 l k)
 

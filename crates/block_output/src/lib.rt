@@ -43,6 +43,7 @@ fn write_answer(
 
 fn write_decoded(
     m: u32,
+    arikan: bool,
     n: usize,
     l: u32,
     p: u32,
@@ -53,7 +54,7 @@ fn write_decoded(
     out: &mut [u8],
 ) -> usize
     requires { ⌜ (n ≡ 2 ^ m) × (n ≤ 64) × (l ≤ 4) × (665 ≤ length (now out)) ⌝ }
-    ensures { λ r. ⌜ Begins (decodedText (code m (now (map .entry)) (now (pairs .entry))) l p frame (now (soft .entry))) (now (out .entry)) r (now (out .exit)) ⌝ }
+    ensures { λ r. ⌜ Begins (decodedText (code m arikan (now (map .entry)) (now (pairs .entry))) l p frame (now (soft .entry))) (now (out .entry)) r (now (out .exit)) ⌝ }
 {
     let mut numbers = [0u32; 8192];
     let mut bytes = [0u8; 2048];
@@ -62,6 +63,7 @@ fn write_decoded(
     let mut scores = [0i32; 4];
     let decoded = decode(
         m,
+        arikan,
         map,
         pairs,
         l,
@@ -79,6 +81,7 @@ fn write_decoded(
 // The frozen map, `count` pairs and the soft values stand at the front of their slices.
 pub fn write_block(
     m: u32,
+    arikan: bool,
     l: u32,
     p: u32,
     frame: u32,
@@ -89,7 +92,7 @@ pub fn write_block(
     out: &mut [u8],
 ) -> usize
     requires { ⌜ (m ≤ 10) × (count ≤ 256) × (length (now map) ≡ 128) × (length (now pairs) ≡ 1024) × (length (now soft) ≡ 1024) × (665 ≤ length (now out)) ⌝ }
-    ensures { λ r. ⌜ Begins (blockText m l p frame count (now (map .entry)) (now (pairs .entry)) (now (soft .entry))) (now (out .entry)) r (now (out .exit)) ⌝ }
+    ensures { λ r. ⌜ Begins (blockText m arikan l p frame count (now (map .entry)) (now (pairs .entry)) (now (soft .entry))) (now (out .entry)) r (now (out .exit)) ⌝ }
 {
     let n = size(m);
     if n > 64 {
@@ -100,5 +103,16 @@ pub fn write_block(
     }
     let k = (n + 7) / 8;
     let q = 4 * (count as usize);
-    write_decoded(m, n, l, p, frame, &map[..k], &pairs[..q], &soft[..n], out)
+    write_decoded(
+        m,
+        arikan,
+        n,
+        l,
+        p,
+        frame,
+        &map[..k],
+        &pairs[..q],
+        &soft[..n],
+        out,
+    )
 }

@@ -1,6 +1,6 @@
 -- What the calls that write the rows of a decoded block take and leave.
 use mathlib.Core.Path.{_≡_}
-use mathlib.Core.Bool.{false}
+use mathlib.Core.Bool.{Bool, false}
 use mathlib.Core.List.{List}
 use Prim.Native.Nat.{ℕ, _+_, _*_, _<_, _≤_, _^_, min}
 use lib.ListN.{length, drop, getD}
@@ -30,9 +30,9 @@ pub record BitsFit (m l p n h count inputs words bytes : ℕ) : Type 0 where
   pub word-room : n * l ≤ words
 
 -- the input rows, read back from the history in b, and their words
-pub record BitsWritten (m l p n h count inputRoom wordRoom : ℕ) (b inputs words : List ℕ) : Type 0 where
+pub record BitsWritten (m : ℕ) (arikan : Bool) (l p n h count inputRoom wordRoom : ℕ) (b inputs words : List ℕ) : Type 0 where
   pub inputs-left : InputsWritten l p n count inputRoom (drop (3 * h) b) inputs
-  pub words-left : WordsWritten m n count wordRoom inputs words
+  pub words-left : WordsWritten m arikan n count wordRoom inputs words
 
 -- the costs of the first count entries
 pub record CostsRead (count : ℕ) (code costs : List ℕ) : Type 0 where

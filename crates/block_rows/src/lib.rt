@@ -32,18 +32,19 @@ pub fn write_bits(
     b: &[u8],
     count: usize,
     m: u32,
+    arikan: bool,
     l: usize,
     p: usize,
     n: usize,
     h: usize,
 )
     requires { ⌜ BitsFit m l p n h count (length (now inputs)) (length (now words)) (length (now b)) ⌝ }
-    ensures { λ _. ⌜ BitsWritten m l p n h count (length (now (inputs .entry))) (length (now (words .entry))) (now (b .entry)) (now (inputs .exit)) (now (words .exit)) ⌝ }
+    ensures { λ _. ⌜ BitsWritten m arikan l p n h count (length (now (inputs .entry))) (length (now (words .entry))) (now (b .entry)) (now (inputs .exit)) (now (words .exit)) ⌝ }
 {
     let k = 3 * h;
     let past = times(l, p);
     write_inputs(inputs, &b[k..], l, p, past, n, count);
-    write_words(words, inputs, m, n, l, count);
+    write_words(words, inputs, m, arikan, n, l, count);
 }
 
 // The larger of the first score and the highest that was dropped, where total is the sum of the magnitudes.

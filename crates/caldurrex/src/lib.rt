@@ -1,4 +1,5 @@
-// The calls for a host written in C. A slice is a pointer and a length in elements.
+// The calls for a host written in C. A slice is a pointer and a length in elements; the choice of Arikan's transform is a byte, 0 for no and
+// any other for yes.
 mod fields;
 
 use fields::DecodedFields;
@@ -8,39 +9,43 @@ ghost use mathlib.Core.Path.{_≡_};
 ghost use Rattle.spec.specs.Code.{code};
 ghost use Rattle.spec.specs.Outcome.{written, encodeOutcome, extractOutcome, lent, decodeOutcome, readOutcome};
 ghost use Rattle.job.specs.Answer.{hostReading, forHost};
+ghost use Rattle.caldurrex.specs.Choice.{chosen};
 ghost use Rattle.caldurrex.specs.Fields.{returned, asReturned};
 
 #[no_mangle]
 pub extern "C" fn caldurrex_encode(
     m: u32,
+    arikan: u8,
     map: &[u8],
     pairs: &[u8],
     payload: &[u8],
     word: &mut [u8],
 ) -> u32
     ensures { λ r. ⌜ written r (now (word .exit))
-        ≡ encodeOutcome (code m (now (map .entry)) (now (pairs .entry))) (now (payload .entry)) (now (word .entry)) ⌝ }
+        ≡ encodeOutcome (code m (chosen arikan) (now (map .entry)) (now (pairs .entry))) (now (payload .entry)) (now (word .entry)) ⌝ }
 {
-    encoder::encode(m, map, pairs, payload, word)
+    encoder::encode(m, arikan != 0, map, pairs, payload, word)
 }
 
 #[no_mangle]
 pub extern "C" fn caldurrex_extract(
     m: u32,
+    arikan: u8,
     map: &[u8],
     pairs: &[u8],
     word: &[u8],
     payload: &mut [u8],
 ) -> u32
     ensures { λ r. ⌜ written r (now (payload .exit))
-        ≡ extractOutcome (code m (now (map .entry)) (now (pairs .entry))) (now (word .entry)) (now (payload .entry)) ⌝ }
+        ≡ extractOutcome (code m (chosen arikan) (now (map .entry)) (now (pairs .entry))) (now (word .entry)) (now (payload .entry)) ⌝ }
 {
-    extractor::extract(m, map, pairs, word, payload)
+    extractor::extract(m, arikan != 0, map, pairs, word, payload)
 }
 
 #[no_mangle]
 pub extern "C" fn caldurrex_decode(
     m: u32,
+    arikan: u8,
     map: &[u8],
     pairs: &[u8],
     list: u32,
@@ -53,10 +58,11 @@ pub extern "C" fn caldurrex_decode(
     scores: &mut [i32],
 ) -> DecodedFields
     ensures { λ r. ⌜ returned r (lent (now (numbers .exit)) (now (bytes .exit)) (now (inputs .exit)) (now (words .exit)) (now (scores .exit)))
-        ≡ asReturned (decodeOutcome (code m (now (map .entry)) (now (pairs .entry))) list stop (now (soft .entry)) (lent (now (numbers .entry)) (now (bytes .entry)) (now (inputs .entry)) (now (words .entry)) (now (scores .entry)))) ⌝ }
+        ≡ asReturned (decodeOutcome (code m (chosen arikan) (now (map .entry)) (now (pairs .entry))) list stop (now (soft .entry)) (lent (now (numbers .entry)) (now (bytes .entry)) (now (inputs .entry)) (now (words .entry)) (now (scores .entry)))) ⌝ }
 {
     let d = decoder::decode(
         m,
+        arikan != 0,
         map,
         pairs,
         list,

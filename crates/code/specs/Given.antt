@@ -1,5 +1,6 @@
 -- The refusals 1, 2, 3, 15, 6 and 11: of a code and of what is given with it, which must be n bits.
 use mathlib.Core.Path.{_≡_, ap}
+use mathlib.Core.Bool.{Bool}
 use mathlib.Core.List.{List, [], _∷_, _++_}
 use Prim.Native.Nat.{ℕ, _^_}
 use lib.ListN.{length}
@@ -12,9 +13,9 @@ use Rattle.laws.specs.MapBits.{flagsOf, no-above, bits-not-above}
 use Rattle.laws.specs.Accepted.{Accepted, accepted-of, no-fault}
 
 -- the flags that a loop over n positions reads
-pub flags-are : (m n : ℕ) (map pairs : List ℕ) → n ≡ 2 ^ m → flagsOf n map ≡ frozen (code m map pairs)
+pub flags-are : (m n : ℕ) (arikan : Bool) (map pairs : List ℕ) → n ≡ 2 ^ m → flagsOf n map ≡ frozen (code m arikan map pairs)
 unfolding frozen
-flags-are m n map pairs e = ap (λ (k : ℕ). flagsOf k map) e
+flags-are m n arikan map pairs e = ap (λ (k : ℕ). flagsOf k map) e
 
 abbrev pub bitFaults : ℕ → List ℕ → List Fault
 bitFaults n given = lengthFault n (length given) ∷ bitFault given ∷ []

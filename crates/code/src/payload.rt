@@ -1,5 +1,5 @@
 // k, the number of clear positions: the ones of the map are counted and taken off n.
-ghost use mathlib.Core.Bool.{false};
+ghost use mathlib.Core.Bool.{Bool, false};
 ghost use mathlib.Core.List.{List};
 ghost use mathlib.Core.Path.{_≡_};
 ghost use Prim.Native.Nat.{ℕ, _+_, _*_, _^_, _≤_};
@@ -30,10 +30,10 @@ fn count_frozen(map: &[u8]) -> usize
     k
 }
 
-// k, whatever the pairs are.
+// k, whatever the transform and the pairs are.
 pub fn payload_size(m: u32, map: &[u8]) -> usize
     requires { ⌜ (m ≤ 10) × (length (now map) ≡ mapBytes (2 ^ m)) × (pastEnd (2 ^ m) (now map) ≡ false) ⌝ }
-    ensures { λ r. ⌜ ((pairs : List ℕ) → r ≡ payloadSize (code m (now (map .entry)) pairs)) ⌝ }
+    ensures { λ r. ⌜ ((arikan : Bool) (pairs : List ℕ) → r ≡ payloadSize (code m arikan (now (map .entry)) pairs)) ⌝ }
 {
     let n = size(m);
     let frozen = count_frozen(map);

@@ -1,5 +1,6 @@
 // n, and the refusals 1 to 3 and 15 of a code.
 use crate::pairs::pairs_refused;
+ghost use mathlib.Core.Bool.{Bool};
 ghost use mathlib.Core.Path.{_≡_};
 ghost use Prim.Native.Nat.{_^_, _≤_};
 ghost use lib.ListN.{length};
@@ -26,9 +27,9 @@ fn past_end(m: u32, map: &[u8]) -> bool
     false
 }
 
-// Refusals 1 to 3 and 15, or 0.
+// Refusals 1 to 3 and 15, or 0, whatever the transform is.
 pub fn code_refusal(m: u32, map: &[u8], pairs: &[u8]) -> u32
-    ensures { λ r. ⌜ r ≡ first (codeFaults (code m (now (map .entry)) (now (pairs .entry)))) ⌝ }
+    ensures { λ r. ⌜ ((arikan : Bool) → r ≡ first (codeFaults (code m arikan (now (map .entry)) (now (pairs .entry))))) ⌝ }
 {
     if m < 2 {
         return 1;

@@ -1,5 +1,6 @@
 -- What is written for a record, by what the reader makes of it.
 use mathlib.Core.Path.{_≡_, refl, sym, ap, _∙_}
+use mathlib.Core.Bool.{Bool}
 use mathlib.Core.List.{List, _++_}
 use Prim.Native.Nat.{ℕ, zero, suc, _+_, _*_, _≤_, _<_}
 use native.Mathlib.Omega.{arith}
@@ -10,7 +11,7 @@ use Rattle.spec.specs.Code.{codeTransform}
 use Rattle.spec.specs.Score.{taken}
 use Rattle.spec.specs.Decoder.{rows, ceiling}
 use Rattle.spec.specs.Faults.{first, settled}
-use Rattle.spec.specs.Record.{positions, exponent, listSize, stopPosition, frameNumber, recordMap, pairCount, recordPairs, recordCode, recordSoft, shapeFaults, fieldFaults}
+use Rattle.spec.specs.Record.{positions, exponent, isArikan, listSize, stopPosition, frameNumber, recordMap, pairCount, recordPairs, recordCode, recordSoft, shapeFaults, fieldFaults}
 use Rattle.spec.specs.Refusals.{tableFaults}
 use Rattle.spec.specs.Outcome.{job, refusedJob, Job, Reading, reading, padded, readRefusal, readServed, readOutcome, decodeRefusal}
 use Rattle.laws.specs.FirstFault.{First, none, later, of-first, is-first, first-before, first-after, Numbered, end, next, settled-refused, settled-served}
@@ -23,7 +24,7 @@ use Rattle.block_output.specs.Block.{limitFaults, blockRoom, decodedText, block
 
 -- what is written for the reader's answer and what it leaves
 abbrev textFor : Job → List ℕ → List ℤ → List ℕ → List ℕ
-textFor (job m l p f k) map soft pairs = blockText m l p f k map pairs soft
+textFor (job m a l p f k) map soft pairs = blockText m a l p f k map pairs soft
 textFor (refusedJob k) map soft pairs = refusedText k
 
 -- the output for an input that is not too long
@@ -92,7 +93,7 @@ module _ (s : List ℕ) where
 
   -- the map, the pairs and the soft values at the front of slices are those of the record
   front : 0 ≡ reader → (a b c : ℕ)
-      → blockText (exponent s) (listSize s) (stopPosition s) (frameNumber s) (pairCount s) (padded 0 a (recordMap s)) (padded 0 c (recordPairs s)) (padded (pos 0) b handed)
+      → blockText (exponent s) (isArikan s) (listSize s) (stopPosition s) (frameNumber s) (pairCount s) (padded 0 a (recordMap s)) (padded 0 c (recordPairs s)) (padded (pos 0) b handed)
       ≡ settled (first (limitFaults (positions s) (listSize s))) refusedText (decodedText (recordCode s) (listSize s) (stopPosition s) (frameNumber s) handed)
   unfolding blockText
   front e a b c = rw (map-at-front s 128 1024 1024 e a, pairs-at-front s 128 1024 1024 e c, soft-at-front s 128 1024 1024 e b)
@@ -109,7 +110,7 @@ module _ (s : List ℕ) where
         by-number : (r : ℕ) → r ≡ reader → reading (refusedJob k) map′ soft′ pairs′ ≡ settled r (λ j. reading (refusedJob j) map soft pairs) (readServed s (length map) (length soft) (length pairs))
             → refusedText k ≡ recordOutput s
         by-number zero e q =
-            let a : refusedJob k ≡ job (exponent s) (listSize s) (stopPosition s) (frameNumber s) (pairCount s) = ap (λ (o : Reading). o .answer) q in
+            let a : refusedJob k ≡ job (exponent s) (isArikan s) (listSize s) (stopPosition s) (frameNumber s) (pairCount s) = ap (λ (o : Reading). o .answer) q in
             let n : _≡_ {A = ℕ} 0 1 = cc in
             absurd (omega arith)
         by-number (suc r) e q =
@@ -119,16 +120,16 @@ module _ (s : List ℕ) where
             ∙ settled-refused refusedText (textOf (frameNumber s) (recordRows s) (recordCeiling s)) (suc r) (first (recordFaults s))
             (first-before (shapeFaults s ++ fieldFaults s 128 1024 1024) (limitFaults (positions s) (listSize s)) (suc r) e (λ z. omega arith)) (λ z. omega arith)
 
-    pub read-record : {m l p f k : ℕ} → reading (job m l p f k) map′ soft′ pairs′ ≡ readOutcome s map soft pairs → blockText m l p f k map′ pairs′ soft′ ≡ recordOutput s
+    pub read-record : {m : ℕ} {a : Bool} {l p f k : ℕ} → reading (job m a l p f k) map′ soft′ pairs′ ≡ readOutcome s map soft pairs → blockText m a l p f k map′ pairs′ soft′ ≡ recordOutput s
     unfolding readOutcome readServed
-    read-record {m} {l} {p} {f} {k} = by-number (readRefusal s (length map) (length soft) (length pairs)) reader-is
+    read-record {m} {a} {l} {p} {f} {k} = by-number (readRefusal s (length map) (length soft) (length pairs)) reader-is
       where
-        by-number : (r : ℕ) → r ≡ reader → reading (job m l p f k) map′ soft′ pairs′ ≡ settled r (λ j. reading (refusedJob j) map soft pairs) (readServed s (length map) (length soft) (length pairs))
-            → blockText m l p f k map′ pairs′ soft′ ≡ recordOutput s
+        by-number : (r : ℕ) → r ≡ reader → reading (job m a l p f k) map′ soft′ pairs′ ≡ settled r (λ j. reading (refusedJob j) map soft pairs) (readServed s (length map) (length soft) (length pairs))
+            → blockText m a l p f k map′ pairs′ soft′ ≡ recordOutput s
         by-number zero e q =
             let b = ap (λ (o : Reading). textFor (o .answer) (o .map) (o .soft) (o .pairs)) q in
             b ∙ front e (length map) (length soft) (length pairs) ∙ good-record e
         by-number (suc r) e q =
-            let a : job m l p f k ≡ refusedJob (suc r) = ap (λ (o : Reading). o .answer) q in
+            let w : job m a l p f k ≡ refusedJob (suc r) = ap (λ (o : Reading). o .answer) q in
             let n : _≡_ {A = ℕ} 0 1 = cc in
             absurd (omega arith)

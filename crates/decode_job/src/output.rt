@@ -20,8 +20,9 @@ fn write_record(input: &[u8], out: &mut [u8]) -> usize
     let read = read_job(input, &mut map, &mut soft, &mut pairs);
     match read {
         Job::Refused(k) => write_refused(k, out),
-        Job::Fields(m, l, p, frame, count) => write_block(
+        Job::Fields(m, arikan, l, p, frame, count) => write_block(
             m,
+            arikan,
             l,
             p,
             frame,

@@ -64,7 +64,16 @@ fn print_tables(numbers: &[u32], bytes: &[u8]) {
     print_byte(b'\n');
 }
 
-fn decode_block(m: u32, n: usize, l: u32, p: u32, map: &[u8], pairs: &[u8], soft: &[i16])
+fn decode_block(
+    m: u32,
+    arikan: bool,
+    n: usize,
+    l: u32,
+    p: u32,
+    map: &[u8],
+    pairs: &[u8],
+    soft: &[i16],
+)
     requires { ⌜ n ≤ 1024 ⌝ }
 {
     let mut numbers = dirty::numbers();
@@ -74,6 +83,7 @@ fn decode_block(m: u32, n: usize, l: u32, p: u32, map: &[u8], pairs: &[u8], soft
     let mut scores = dirty::scores();
     let decoded = decode(
         m,
+        arikan,
         map,
         pairs,
         l,
@@ -93,6 +103,7 @@ fn decode_block(m: u32, n: usize, l: u32, p: u32, map: &[u8], pairs: &[u8], soft
 // The frozen map, `count` pairs and the soft values stand at the front of their slices.
 pub(crate) fn decode_fields(
     m: u32,
+    arikan: bool,
     l: u32,
     p: u32,
     frame: u32,
@@ -113,5 +124,5 @@ pub(crate) fn decode_fields(
     let n = size(m);
     let k = (n + 7) / 8;
     let q = 4 * (count as usize);
-    decode_block(m, n, l, p, &map[..k], &pairs[..q], &soft[..n]);
+    decode_block(m, arikan, n, l, p, &map[..k], &pairs[..q], &soft[..n]);
 }

@@ -12,8 +12,8 @@ fn decode_record(bytes: &[u8]) {
     let read = read_job(bytes, &mut map, &mut soft, &mut pairs);
     match read {
         Job::Refused(k) => print_refused(k),
-        Job::Fields(m, l, p, frame, count) => {
-            decode_fields(m, l, p, frame, count, &map, &pairs, &soft)
+        Job::Fields(m, arikan, l, p, frame, count) => {
+            decode_fields(m, arikan, l, p, frame, count, &map, &pairs, &soft)
         }
     }
 }

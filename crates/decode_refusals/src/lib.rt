@@ -1,6 +1,6 @@
 // The refusals of a decoder call in turn, 1 to 10 with 15 behind 3, decided before anything is written.
 ghost use mathlib.Core.Path.{_≡_};
-ghost use mathlib.Core.Bool.{_||_};
+ghost use mathlib.Core.Bool.{Bool, _||_};
 ghost use Prim.Native.Nat.{_≤_};
 ghost use lib.Dec.{ltb};
 ghost use Rattle.spec.specs.Code.{code};
@@ -66,7 +66,7 @@ fn table_refusal(
     0
 }
 
-// The number of the refusal, or 0, from what is shared and the lengths of what is lent.
+// The number of the refusal, or 0, from what is shared and the lengths of what is lent, whatever the transform is.
 pub fn decode_refusal(
     m: u32,
     map: &[u8],
@@ -80,7 +80,8 @@ pub fn decode_refusal(
     words: usize,
     scores: usize,
 ) -> u32
-    ensures { λ r. ⌜ r ≡ first (decodeFaults (code m (now (map .entry)) (now (pairs .entry))) l p (now (soft .entry)) (room numbers bytes inputs words scores)) ⌝ }
+    ensures { λ r. ⌜ ((arikan : Bool) → r ≡ first (decodeFaults (code m arikan (now (map .entry)) (now (pairs .entry))) l p (now (soft .entry))
+        (room numbers bytes inputs words scores))) ⌝ }
 {
     let code = code_refusal(m, map, pairs);
     if code != 0 {

@@ -1,5 +1,6 @@
 -- A call whose refusals do not apply has what it takes to be served.
 use mathlib.Core.Path.{_≡_, refl, sym, _∙_}
+use mathlib.Core.Bool.{Bool}
 use mathlib.Core.List.{List}
 use Prim.Native.Nat.{ℕ, _*_, _/_, _≤_, _^_}
 use native.Mathlib.Omega.{arith}
@@ -14,13 +15,13 @@ use Rattle.laws.specs.FirstFault.{First, none, later, of-first, inside-of, same
 use Rattle.laws.specs.Accepted.{accepted-of}
 use Rattle.decoder.specs.Serving.{ServeFits}
 
-unrefused : (m l p n h : ℕ) (map pairs : List ℕ) (soft : List ℤ) (r : Room) → n ≡ 2 ^ m → h ≡ n / 2 * l
-    → First (decodeFaults (code m map pairs) l p soft r) 0 → ServeFits m l p n h map pairs soft r
-unrefused m l p n h map pairs soft r en eh
+unrefused : (m : ℕ) (arikan : Bool) (l p n h : ℕ) (map pairs : List ℕ) (soft : List ℤ) (r : Room) → n ≡ 2 ^ m → h ≡ n / 2 * l
+    → First (decodeFaults (code m arikan map pairs) l p soft r) 0 → ServeFits m arikan l p n h map pairs soft r
+unrefused m arikan l p n h map pairs soft r en eh
     (later a (later b (later d (later u (later v (later w (later e₄ (later e₅ (later e₆ (later e₇ (later e₈ (later e₉ (later x (later y (later z none))))))))))))))) =
     let q = inside-of 1 32 l e₄ in
     record {
-      accepts = accepted-of {c = code m map pairs} (later a (later b (later d (later u (later v (later w none))))));
+      accepts = accepted-of {c = code m arikan map pairs} (later a (later b (later d (later u (later v (later w none))))));
       some-path = q .0;
       list = q .1;
       stop = omega (arith, ltb-false (2 ^ m) p e₅);
@@ -35,19 +36,19 @@ unrefused m l p n h map pairs soft r en eh
       scores = ltb-false (r .scores) l z;
     }
 
-module _ (m l p : ℕ) (map pairs : List ℕ) (soft : List ℤ) (k : ℕ) (r : Room) (found : k ≡ first (decodeFaults (code m map pairs) l p soft r)) where
-  pub serve-fits : k ≡ 0 → (n h : ℕ) → n ≡ 2 ^ m → h ≡ n / 2 * l → ServeFits m l p n h map pairs soft r
-  serve-fits z n h en eh = unrefused m l p n h map pairs soft r en eh (of-first (decodeFaults (code m map pairs) l p soft r) 0 (sym z ∙ found))
+module _ (m : ℕ) (arikan : Bool) (l p : ℕ) (map pairs : List ℕ) (soft : List ℤ) (k : ℕ) (r : Room) (found : k ≡ first (decodeFaults (code m arikan map pairs) l p soft r)) where
+  pub serve-fits : k ≡ 0 → (n h : ℕ) → n ≡ 2 ^ m → h ≡ n / 2 * l → ServeFits m arikan l p n h map pairs soft r
+  serve-fits z n h en eh = unrefused m arikan l p n h map pairs soft r en eh (of-first (decodeFaults (code m arikan map pairs) l p soft r) 0 (sym z ∙ found))
 
   pub small-exponent : k ≡ 0 → m ≤ 10
   small-exponent z = serve-fits z (2 ^ m) (2 ^ m / 2 * l) refl refl .accepts .high
 
-module _ (m l p : ℕ) (map pairs : List ℕ) (soft : List ℤ) (k : ℕ) (x : Lent) (found : k ≡ first (decodeFaults (code m map pairs) l p soft (roomOf x))) where
-  pub refused-call : (k ≡ 0 → ⊥) → decoding (refusedBy k) x ≡ decodeOutcome (code m map pairs) l p soft x
+module _ (m : ℕ) (arikan : Bool) (l p : ℕ) (map pairs : List ℕ) (soft : List ℤ) (k : ℕ) (x : Lent) (found : k ≡ first (decodeFaults (code m arikan map pairs) l p soft (roomOf x))) where
+  pub refused-call : (k ≡ 0 → ⊥) → decoding (refusedBy k) x ≡ decodeOutcome (code m arikan map pairs) l p soft x
   unfolding decodeOutcome decodeRefusal
-  refused-call n = settled-refused (λ j. decoding (refusedBy j) x) (decodeServed (code m map pairs) l p soft (roomOf x)) k (first (decodeFaults (code m map pairs) l p soft (roomOf x))) found n
+  refused-call n = settled-refused (λ j. decoding (refusedBy j) x) (decodeServed (code m arikan map pairs) l p soft (roomOf x)) k (first (decodeFaults (code m arikan map pairs) l p soft (roomOf x))) found n
 
-  pub served-call : k ≡ 0 → (o : Decoding) → o ≡ decodeServed (code m map pairs) l p soft (roomOf x) → o ≡ decodeOutcome (code m map pairs) l p soft x
+  pub served-call : k ≡ 0 → (o : Decoding) → o ≡ decodeServed (code m arikan map pairs) l p soft (roomOf x) → o ≡ decodeOutcome (code m arikan map pairs) l p soft x
   unfolding decodeOutcome decodeRefusal
   served-call z o s =
-      s ∙ settled-served (λ j. decoding (refusedBy j) x) (decodeServed (code m map pairs) l p soft (roomOf x)) (first (decodeFaults (code m map pairs) l p soft (roomOf x))) (sym z ∙ found)
+      s ∙ settled-served (λ j. decoding (refusedBy j) x) (decodeServed (code m arikan map pairs) l p soft (roomOf x)) (first (decodeFaults (code m arikan map pairs) l p soft (roomOf x))) (sym z ∙ found)

@@ -1,5 +1,6 @@
 -- The sizes of a call that is served, and what its parts ask for.
 use mathlib.Core.Path.{_≡_, sym, ap, ap₂, subst, _∙_}
+use mathlib.Core.Bool.{Bool}
 use mathlib.Core.List.{List}
 use Prim.Native.Nat.{ℕ, suc, _+_, _-_, _*_, _/_, _≤_, _^_}
 use native.Mathlib.Omega.{arith}
@@ -22,7 +23,7 @@ pub zeroed : (s : List ℕ) → filledFrom 0 0 s ≡ replicate (length s) 0
 unfolding filledFrom
 zeroed s = let e : length s - 0 ≡ length s = omega arith in ap (λ (k : ℕ). replicate k 0) e
 
-module _ (m l p n h : ℕ) (map pairs : List ℕ) (soft : List ℤ) (r : Room) (f : ServeFits m l p n h map pairs soft r) where
+module _ (m : ℕ) (arikan : Bool) (l p n h : ℕ) (map pairs : List ℕ) (soft : List ℤ) (r : Room) (f : ServeFits m arikan l p n h map pairs soft r) where
   pub exponent : m ≡ suc (suc (m - 2))
   exponent = omega (arith, f .accepts .low)
 
@@ -100,7 +101,7 @@ module _ (m l p n h : ℕ) (map pairs : List ℕ) (soft : List ℤ) (r : Room) (
     room = omega (arith, rows-there);
     wide = omega (arith, f .inputs);
     flags = flags-there;
-    ruled = subst (λ (fs : List ℕ). Ruled fs pairs) (sym (flags-are m n map pairs (f .size-is))) (f .accepts .ruled);
+    ruled = subst (λ (fs : List ℕ). Ruled fs pairs) (sym (flags-are m n arikan map pairs (f .size-is))) (f .accepts .ruled);
   }
 
   pub bits-fit : (count bytes : ℕ) → count ≤ l → r .bytes ≤ bytes → BitsFit m l p n h count (r .inputs) (r .words) bytes

@@ -1,6 +1,6 @@
 -- A call that is served: what it takes, and what its parts leave.
 use mathlib.Core.Path.{_≡_}
-use mathlib.Core.Bool.{false}
+use mathlib.Core.Bool.{Bool, false}
 use mathlib.Core.List.{List}
 use Prim.Native.Nat.{ℕ, _-_, _*_, _/_, _≤_, _^_}
 use lib.ListN.{length}
@@ -14,8 +14,8 @@ use Rattle.live.specs.declared.Live.{Live}
 use Rattle.positions.specs.Running.{Ran}
 
 -- a call that is not refused: list size l, stop position p; n positions, and h nodes in the layers of all slots
-pub record ServeFits (m l p n h : ℕ) (map pairs : List ℕ) (soft : List ℤ) (room : Room) : Type 0 where
-  pub accepts : Accepted (code m map pairs)
+pub record ServeFits (m : ℕ) (arikan : Bool) (l p n h : ℕ) (map pairs : List ℕ) (soft : List ℤ) (room : Room) : Type 0 where
+  pub accepts : Accepted (code m arikan map pairs)
   pub some-path : 1 ≤ l
   pub list : l ≤ 32
   pub stop : p ≤ n
@@ -30,6 +30,6 @@ pub record ServeFits (m l p n h : ℕ) (map pairs : List ℕ) (soft : List ℤ) 
   pub scores : l ≤ room .scores
 
 -- the live list at the stop position for the soft values as they are taken, and the tables that stand for it
-pub record Stopped (m l p h : ℕ) (map pairs : List ℕ) (soft : List ℤ) (r : Live) (t b : List ℕ) : Type 0 where
+pub record Stopped (m : ℕ) (arikan : Bool) (l p h : ℕ) (map pairs : List ℕ) (soft : List ℤ) (r : Live) (t b : List ℕ) : Type 0 where
   pub few : r .count ≤ l
-  pub ran : Ran (code m map pairs) (taken soft) (m - 2) l h p r t b
+  pub ran : Ran (code m arikan map pairs) (taken soft) (m - 2) l h p r t b

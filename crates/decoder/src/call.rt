@@ -17,6 +17,7 @@ pub enum Decoded {
 // The rows of the paper decoder at stop position p for list size l, by rank: inputs, words and scores, 0 behind them; and its ceiling.
 pub fn decode(
     m: u32,
+    arikan: bool,
     map: &[u8],
     pairs: &[u8],
     l: u32,
@@ -29,7 +30,7 @@ pub fn decode(
     scores: &mut [i32],
 ) -> Decoded
     ensures { λ r. ⌜ decoding (answerOf r) (lent (now (numbers .exit)) (now (bytes .exit)) (now (inputs .exit)) (now (words .exit)) (now (scores .exit)))
-        ≡ decodeOutcome (code m (now (map .entry)) (now (pairs .entry))) l p (now (soft .entry)) (lent (now (numbers .entry)) (now (bytes .entry)) (now (inputs .entry)) (now (words .entry)) (now (scores .entry))) ⌝ }
+        ≡ decodeOutcome (code m arikan (now (map .entry)) (now (pairs .entry))) l p (now (soft .entry)) (lent (now (numbers .entry)) (now (bytes .entry)) (now (inputs .entry)) (now (words .entry)) (now (scores .entry))) ⌝ }
 {
     let refusal = decode_refusal(
         m,
@@ -51,6 +52,7 @@ pub fn decode(
     let h = times(n / 2, l as usize);
     serve(
         m,
+        arikan,
         map,
         pairs,
         l as usize,

@@ -19,6 +19,7 @@ use tables::start::start;
 // The live list at stop position p. The inputs, which are written later, serve as working memory.
 fn decode_list(
     m: u32,
+    arikan: bool,
     map: &[u8],
     pairs: &[u8],
     l: usize,
@@ -30,14 +31,14 @@ fn decode_list(
     n: usize,
     h: usize,
 ) -> Live
-    requires { ⌜ ServeFits m l p n h (now map) (now pairs) (now soft) (room (length (now t)) (length (now b)) (length (now inputs)) (n * l) l) ⌝ }
-    ensures { λ r. ⌜ Stopped m l p h (now (map .entry)) (now (pairs .entry)) (now (soft .entry)) r (now (t .exit)) (now (b .exit)) ⌝ }
+    requires { ⌜ ServeFits m arikan l p n h (now map) (now pairs) (now soft) (room (length (now t)) (length (now b)) (length (now inputs)) (n * l) l) ⌝ }
+    ensures { λ r. ⌜ Stopped m arikan l p h (now (map .entry)) (now (pairs .entry)) (now (soft .entry)) r (now (t .exit)) (now (b .exit)) ⌝ }
 {
     let deep = (m - 2) as usize;
     let q = n / 4;
     fill_bytes(b, 0);
-    start(t, soft, deep, q, l, h);
-    positions(t, b, inputs, map, pairs, p, deep, l, h, n)
+    start(t, soft, deep, q, l, h, arikan);
+    positions(t, b, inputs, map, pairs, p, deep, l, h, n, arikan)
 }
 
 // Both tables set to 0 to their last place.
@@ -51,6 +52,7 @@ fn clear_tables(t: &mut [u32], b: &mut [u8])
 // The row count and the ceiling; then the outputs hold the rows of the paper decoder and the tables are 0.
 pub(crate) fn serve(
     m: u32,
+    arikan: bool,
     map: &[u8],
     pairs: &[u8],
     l: usize,
@@ -64,13 +66,13 @@ pub(crate) fn serve(
     n: usize,
     h: usize,
 ) -> Decoded
-    requires { ⌜ ServeFits m l p n h (now map) (now pairs) (now soft) (room (length (now t)) (length (now b)) (length (now inputs)) (length (now words)) (length (now scores))) ⌝ }
+    requires { ⌜ ServeFits m arikan l p n h (now map) (now pairs) (now soft) (room (length (now t)) (length (now b)) (length (now inputs)) (length (now words)) (length (now scores))) ⌝ }
     ensures { λ r. ⌜ decoding (answerOf r) (lent (now (t .exit)) (now (b .exit)) (now (inputs .exit)) (now (words .exit)) (now (scores .exit)))
-        ≡ decodeServed (code m (now (map .entry)) (now (pairs .entry))) l p (now (soft .entry)) (room (length (now (t .entry))) (length (now (b .entry))) (length (now (inputs .entry))) (length (now (words .entry))) (length (now (scores .entry)))) ⌝ }
+        ≡ decodeServed (code m arikan (now (map .entry)) (now (pairs .entry))) l p (now (soft .entry)) (room (length (now (t .entry))) (length (now (b .entry))) (length (now (inputs .entry))) (length (now (words .entry))) (length (now (scores .entry)))) ⌝ }
 {
-    let s = decode_list(m, map, pairs, l, p, soft, t, b, inputs, n, h);
+    let s = decode_list(m, arikan, map, pairs, l, p, soft, t, b, inputs, n, h);
     let rows = s.count;
-    write_bits(inputs, words, b, rows, m, l, p, n, h);
+    write_bits(inputs, words, b, rows, m, arikan, l, p, n, h);
     let ceiling = write_costs(scores, soft, s);
     clear_tables(t, b);
     Decoded::Rows(rows as u32, ceiling)

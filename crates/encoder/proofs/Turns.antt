@@ -56,7 +56,7 @@ record Summed (map pairs fs p out : List ℕ) (i : ℕ) : Type 0 where
   j : ℕ
   left : j + clear (drop i fs) ≡ length p
   behind : drop i out ≡ spread (drop i fs) (drop j p)
-  so-far : (m : ℕ) → filled (code m map pairs) fs p [] ≡ filled (code m map pairs) (drop i fs) (drop j p) (take i out)
+  so-far : (m : ℕ) (arikan : Bool) → filled (code m arikan map pairs) fs p [] ≡ filled (code m arikan map pairs) (drop i fs) (drop j p) (take i out)
 
 head-is : {x y : ℕ} {l r : List ℕ} → x ∷ l ≡ y ∷ r → (x ≡ y) × (l ≡ r)
 head-is e = (ap (λ (l : List ℕ). getD l 0 0) e, ap (drop 1) e)
@@ -79,8 +79,8 @@ module _ {map pairs fs p out : List ℕ} (e : length out ≡ length fs) where
             j = s .j + 1;
             left = omega (arith, s .left, clear-turn fs i h f);
             behind = q .1;
-            so-far = λ m. s .so-far m ∙ filled-clear fs i h f (code m map pairs) p out (s .j) l (omega arith)
-                ∙ ap (λ (o : List ℕ). filled (code m map pairs) (drop (i + 1) fs) (drop (s .j + 1) p) (take (i + 1) o)) (own (q .0));
+            so-far = λ m arikan. s .so-far m arikan ∙ filled-clear fs i h f (code m arikan map pairs) p out (s .j) l (omega arith)
+                ∙ ap (λ (o : List ℕ). filled (code m arikan map pairs) (drop (i + 1) fs) (drop (s .j + 1) p) (take (i + 1) o)) (own (q .0));
           }
       go false t =
           let f : getD fs i 0 ≡ 0 → ⊥ = eqb-false (getD fs i 0) 0 t in
@@ -89,8 +89,8 @@ module _ {map pairs fs p out : List ℕ} (e : length out ≡ length fs) where
             j = s .j;
             left = omega (arith, s .left, frozen-turn fs i h f);
             behind = q .1;
-            so-far = λ m. s .so-far m ∙ filled-frozen fs i h f (code m map pairs) p out (s .j) 0 (omega arith) (sym (a (take i out)))
-                ∙ ap (λ (o : List ℕ). filled (code m map pairs) (drop (i + 1) fs) (drop (s .j) p) (take (i + 1) o)) (own (q .0));
+            so-far = λ m arikan. s .so-far m arikan ∙ filled-frozen fs i h f (code m arikan map pairs) p out (s .j) 0 (omega arith) (sym (a (take i out)))
+                ∙ ap (λ (o : List ℕ). filled (code m arikan map pairs) (drop (i + 1) fs) (drop (s .j) p) (take (i + 1) o)) (own (q .0));
           }
 
   summed-more : (d i k : ℕ) → i + d ≡ k → k ≤ length fs → Unsummed i k pairs → Summed map pairs fs p out i → Summed map pairs fs p out k
@@ -109,7 +109,7 @@ module _ {map pairs fs p out : List ℕ} (e : length out ≡ length fs) where
         j = s .j;
         left = omega (arith, s .left, frozen-turn fs f h n);
         behind = drop-set-lt (f + 1) out f b (omega arith) ∙ t .1;
-        so-far = λ m. s .so-far m ∙ filled-frozen fs f h n (code m map pairs) p out (s .j) b (omega arith) q;
+        so-far = λ m arikan. s .so-far m arikan ∙ filled-frozen fs f h n (code m arikan map pairs) p out (s .j) b (omega arith) q;
       }
 
 -- ---- the input has the sums of the pairs before `at`
@@ -128,7 +128,7 @@ module _ {map pairs p : List ℕ} {n : ℕ} (h : n ≤ 8 * length map) where
     i = 0;
     within = omega arith;
     reached = reached-start (flagsOf n map) pairs a;
-    summed = record { j = 0; left = omega (arith, e); behind = q; so-far = λ m. refl };
+    summed = record { j = 0; left = omega (arith, e); behind = q; so-far = λ m arikan. refl };
     part = part-start (a .whole);
     long = l;
   }
@@ -164,12 +164,12 @@ module _ {map pairs p : List ℕ} {n : ℕ} (h : n ≤ 8 * length map) where
           long = length-set out f b ∙ s .long;
         }
 
-    pub summing-end : length pairs ≤ at → (m : ℕ) → n ≡ 2 ^ m → out ≡ inputFor (code m map pairs) p
+    pub summing-end : length pairs ≤ at → (m : ℕ) (arikan : Bool) → n ≡ 2 ^ m → out ≡ inputFor (code m arikan map pairs) p
     unfolding inputFor
-    summing-end a m e =
-        let c : Code = code m map pairs in
+    summing-end a m arikan e =
+        let c : Code = code m arikan map pairs in
         let fs : List ℕ = flagsOf n map in
         let t = summed-more long-flags (n - s .i) (s .i) n (omega (arith, s .within)) (omega (arith, length-flags n map h)) (unsummed-end (s .reached) n a) (s .summed) in
-        sym (ap (λ (fs : List ℕ). filled c fs p []) (sym (flags-are m n map pairs e))
-        ∙ t .so-far m
+        sym (ap (λ (fs : List ℕ). filled c fs p []) (sym (flags-are m n arikan map pairs e))
+        ∙ t .so-far m arikan
         ∙ filled-end c fs p out n (t .j) (omega (arith, length-flags n map h)) (omega (arith, s .long)))

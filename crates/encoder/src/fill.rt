@@ -3,6 +3,7 @@ use code::flag;
 use code::frozen_bit;
 use code::named;
 use code::run_end;
+ghost use mathlib.Core.Bool.{Bool};
 ghost use mathlib.Core.Path.{_≡_};
 ghost use Prim.Native.Nat.{ℕ, _*_, _^_, _≤_};
 ghost use lib.ListN.{length};
@@ -35,8 +36,8 @@ pub(crate) fn fill_input(map: &[u8], pairs: &[u8], payload: &[u8], input: &mut [
     requires { ⌜ (length (now input) ≤ 8 * length (now map))
         × (clear (flagsOf (length (now input)) (now map)) ≡ length (now payload))
         × (Ruled (flagsOf (length (now input)) (now map)) (now pairs)) ⌝ }
-    ensures { λ _. ⌜ ((m : ℕ) → length (now (input .entry)) ≡ 2 ^ m
-        → now (input .exit) ≡ inputFor (code m (now (map .entry)) (now (pairs .entry))) (now (payload .entry))) ⌝ }
+    ensures { λ _. ⌜ ((m : ℕ) (arikan : Bool) → length (now (input .entry)) ≡ 2 ^ m
+        → now (input .exit) ≡ inputFor (code m arikan (now (map .entry)) (now (pairs .entry))) (now (payload .entry))) ⌝ }
 {
     spread_payload(map, payload, input);
     let mut at = 0;

@@ -3,7 +3,7 @@ use code::flag;
 use code::frozen_bit;
 use code::named;
 use code::run_end;
-ghost use mathlib.Core.Bool.{_||_};
+ghost use mathlib.Core.Bool.{Bool, _||_};
 ghost use mathlib.Core.Path.{_≡_};
 ghost use Prim.Native.Nat.{ℕ, _+_, _*_, _≤_};
 ghost use lib.ListN.{length, drop};
@@ -61,9 +61,9 @@ fn run_broken(
 ) -> bool
     requires { ⌜ (length (now input) ≤ 8 * length (now map))
         × (Run (flagsOf (length (now input)) (now map)) from f at to (now pairs)) ⌝ }
-    ensures { λ r. ⌜ ((m : ℕ) → brokenFrom (code m (now (map .entry)) (now (pairs .entry))) (now (input .entry)) from
+    ensures { λ r. ⌜ ((m : ℕ) (arikan : Bool) → brokenFrom (code m arikan (now (map .entry)) (now (pairs .entry))) (now (input .entry)) from
         (drop from (flagsOf (length (now (input .entry))) (now (map .entry))))
-        ≡ (r || brokenFrom (code m (now (map .entry)) (now (pairs .entry))) (now (input .entry)) (f + 1)
+        ≡ (r || brokenFrom (code m arikan (now (map .entry)) (now (pairs .entry))) (now (input .entry)) (f + 1)
         (drop (f + 1) (flagsOf (length (now (input .entry))) (now (map .entry)))))) ⌝ }
 {
     if frozen_bit_set(map, input, from, f) {
@@ -75,7 +75,7 @@ fn run_broken(
 // A frozen bit of an input is not the sum that its rule gives: run by run of the pairs, and behind the last.
 pub(crate) fn breaks_rule(map: &[u8], pairs: &[u8], input: &[u8]) -> bool
     requires { ⌜ (length (now input) ≤ 8 * length (now map)) × (Ruled (flagsOf (length (now input)) (now map)) (now pairs)) ⌝ }
-    ensures { λ r. ⌜ ((m : ℕ) → r ≡ brokenFrom (code m (now (map .entry)) (now (pairs .entry))) (now (input .entry)) 0
+    ensures { λ r. ⌜ ((m : ℕ) (arikan : Bool) → r ≡ brokenFrom (code m arikan (now (map .entry)) (now (pairs .entry))) (now (input .entry)) 0
         (flagsOf (length (now (input .entry))) (now (map .entry)))) ⌝ }
 {
     let mut i = 0;

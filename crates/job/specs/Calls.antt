@@ -1,6 +1,6 @@
 -- The call of the reader: what is known of a record that is not refused, and what the call comes to.
 use mathlib.Core.Path.{_≡_, refl, ap}
-use mathlib.Core.Bool.{false}
+use mathlib.Core.Bool.{Bool, false}
 use mathlib.Core.List.{List, _++_}
 use Prim.Native.Nat.{ℕ, zero, suc, _*_, _≤_}
 use native.Mathlib.Omega.{arith}
@@ -16,6 +16,11 @@ use Rattle.laws.specs.FirstFault.{First, none, later, of-first, none-before, no
 use Rattle.job_fields.specs.Laid.{Shaped}
 use Rattle.job_refusals.specs.Shape.{shape-numbers, shaped-of}
 use Rattle.job_refusals.specs.Conditions.{lentFaults, code-and-range-numbers}
+
+-- an answer is its parts
+pub same-job : {m m′ l l′ p p′ f f′ k k′ : ℕ} {a a′ : Bool} → m ≡ m′ → a ≡ a′ → l ≡ l′ → p ≡ p′ → f ≡ f′ → k ≡ k′
+    → job m a l p f k ≡ job m′ a′ l′ p′ f′ k′
+same-job g h i j q r = rw (g, h, i, j, q, r)
 
 -- a reading is its answer and what the three slices hold
 pub same-reading : {j j′ : Job} {map map′ : List ℕ} {soft soft′ : List ℤ} {pairs pairs′ : List ℕ} → j ≡ j′ → map ≡ map′ → soft ≡ soft′ → pairs ≡ pairs′
@@ -74,20 +79,20 @@ module _ (s : List ℕ) where
     read-served e = settled-served (λ k. reading (refusedJob k) map soft pairs) served number e
 
     -- fields that were read: m is from 2 to 10, and there are at most 256 pairs
-    pub read-limits : {m l p f k : ℕ} {map′ : List ℕ} {soft′ : List ℤ} {pairs′ : List ℕ} → reading (job m l p f k) map′ soft′ pairs′ ≡ readOutcome s map soft pairs
-        → (2 ≤ m) × (m ≤ 10) × (k ≤ 256)
+    pub read-limits : {m l p f k : ℕ} {a : Bool} {map′ : List ℕ} {soft′ : List ℤ} {pairs′ : List ℕ}
+        → reading (job m a l p f k) map′ soft′ pairs′ ≡ readOutcome s map soft pairs → (2 ≤ m) × (m ≤ 10) × (k ≤ 256)
     unfolding readOutcome readServed
-    read-limits {m} {l} {p} {f} {k} {map′} {soft′} {pairs′} = by-number number refl
+    read-limits {m} {l} {p} {f} {k} {a} {map′} {soft′} {pairs′} = by-number number refl
       where
-        by-number : (r : ℕ) → r ≡ number → reading (job m l p f k) map′ soft′ pairs′ ≡ settled r (λ k. reading (refusedJob k) map soft pairs) served
+        by-number : (r : ℕ) → r ≡ number → reading (job m a l p f k) map′ soft′ pairs′ ≡ settled r (λ k. reading (refusedJob k) map soft pairs) served
             → (2 ≤ m) × (m ≤ 10) × (k ≤ 256)
         by-number zero z e =
             let w = accepted-record (length map) (length soft) (length pairs) z .shaped in
-            let q : job m l p f k ≡ served .answer = ap (λ (o : Reading). o .answer) e in
+            let q : job m a l p f k ≡ served .answer = ap (λ (o : Reading). o .answer) e in
             let i : m ≡ exponent s = cc in
             let j : k ≡ pairCount s = cc in
             (omega (arith, w .low), omega (arith, w .high), omega (arith, w .few))
         by-number (suc r) z e =
-            let q : job m l p f k ≡ refusedJob (suc r) = ap (λ (o : Reading). o .answer) e in
+            let q : job m a l p f k ≡ refusedJob (suc r) = ap (λ (o : Reading). o .answer) e in
             let n : _≡_ {A = ℕ} 0 1 = cc in
             absurd (omega arith)

@@ -14,7 +14,7 @@ use Rattle.spec.specs.Code.{mapBytes}
 use Rattle.spec.specs.Score.{saturated, taken}
 use Rattle.spec.specs.Faults.{settled, some}
 use Rattle.spec.specs.Refusals.{outOfRange}
-use Rattle.spec.specs.Record.{byteAt, twoAt, fourAt, signed16, softFrom, ifPresent, stopAt, frameAt, mapAt, fields, exponent, positions, listSize, stopPosition, frameNumber, countAt, pairsAt, pairCount, recordMap, recordPairs, softAt, recordSoft}
+use Rattle.spec.specs.Record.{byteAt, twoAt, fourAt, signed16, softFrom, ifPresent, stopAt, frameAt, mapAt, fields, exponent, positions, listSize, stopPosition, frameNumber, countAt, pairsAt, pairCount, recordMap, recordPairs, isArikan, softAt, recordSoft}
 use Rattle.spec.specs.Outcome.{refusedJob, Reading, reading, readRefusal, readServed, readOutcome}
 use Rattle.laws.specs.FullScale.{range-alike}
 
@@ -31,6 +31,9 @@ pub record Alike (s s′ : List ℕ) : Type 0 where
 module _ (s s′ : List ℕ) (a : Alike s s′) where
   fields-same : fields s ≡ fields s′
   fields-same = a .begin 0 (omega arith)
+
+  transform-same : isArikan s ≡ isArikan s′
+  transform-same = ap (λ (f : ℕ). eqb (f / 16 % 2) 1) fields-same
 
   exponent-same : exponent s ≡ exponent s′
   exponent-same = a .begin 1 (omega arith)
@@ -93,7 +96,7 @@ module _ (s s′ : List ℕ) (a : Alike s s′) where
 
   served-same : (maps softs pairs : ℕ) → readServed s maps softs pairs ≡ readServed s′ maps softs pairs
   unfolding readServed
-  served-same maps softs pairs = cc (exponent-same, size-same, stop-same, frame-same, count-same, map-same, pairs-same, soft-same)
+  served-same maps softs pairs = cc (exponent-same, transform-same, size-same, stop-same, frame-same, count-same, map-same, pairs-same, soft-same)
 
   pub read-alike : (map : List ℕ) (soft : List ℤ) (pairs : List ℕ) → readOutcome s map soft pairs ≡ readOutcome s′ map soft pairs
   unfolding readOutcome

@@ -11,7 +11,7 @@ use Rattle.spec.specs.Code.{code, mapBytes}
 use Rattle.spec.specs.Score.{taken}
 use Rattle.spec.specs.Faults.{first, settled, some}
 use Rattle.spec.specs.Refusals.{Room, outOfRange, tableFaults, decodeFaults}
-use Rattle.spec.specs.Record.{exponent, positions, listSize, stopPosition, pairCount, recordMap, recordPairs, recordCode, softAt, recordSoft, shapeFaults, fieldFaults}
+use Rattle.spec.specs.Record.{exponent, isArikan, positions, listSize, stopPosition, pairCount, recordMap, recordPairs, recordCode, softAt, recordSoft, shapeFaults, fieldFaults}
 use Rattle.spec.specs.Outcome.{padded, Job, job, refusedJob, Reading, reading, readRefusal, readServed, readOutcome, decodeRefusal}
 use Rattle.laws.specs.FirstFault.{First, later, of-first, first-is, is-first, same, not-either}
 use Rattle.laws.specs.ListCost.{All, none, more}
@@ -73,8 +73,8 @@ small-taken (y ∷ ys) k e =
 -- an answer with fields: the decoder, given these and the fronts of the three slices, the map, four bytes a pair and n soft values,
 -- refuses for the tables and outputs alone that are lent to it
 abbrev pub OnlyByRoom : Job → List ℕ → List ℤ → List ℕ → Room → Type 0
-OnlyByRoom (job m l p f k) map soft pairs r =
-    decodeRefusal (code m (take (mapBytes (2 ^ m)) map) (take (4 * k) pairs)) l p (take (2 ^ m) soft) r ≡ first (tableFaults (2 ^ m) l r)
+OnlyByRoom (job m a l p f k) map soft pairs r =
+    decodeRefusal (code m a (take (mapBytes (2 ^ m)) map) (take (4 * k) pairs)) l p (take (2 ^ m) soft) r ≡ first (tableFaults (2 ^ m) l r)
 OnlyByRoom (refusedJob k) map soft pairs r = Unit {0}
 
 module _ (s map : List ℕ) (soft : List ℤ) (pairs : List ℕ) where
@@ -92,7 +92,8 @@ module _ (s map : List ℕ) (soft : List ℤ) (pairs : List ℕ) where
   handed-out-accepted r = by-number (readRefusal s (length map) (length soft) (length pairs)) refl
     where
       same-call : {u u′ q q′ : List ℕ} {y y′ : List ℤ} → u ≡ u′ → q ≡ q′ → y ≡ y′
-          → decodeRefusal (code (exponent s) u q) (listSize s) (stopPosition s) y r ≡ decodeRefusal (code (exponent s) u′ q′) (listSize s) (stopPosition s) y′ r
+          → decodeRefusal (code (exponent s) (isArikan s) u q) (listSize s) (stopPosition s) y r
+          ≡ decodeRefusal (code (exponent s) (isArikan s) u′ q′) (listSize s) (stopPosition s) y′ r
       same-call a b d = rw (a, b, d)
 
       by-number : (k : ℕ) → k ≡ readRefusal s (length map) (length soft) (length pairs)

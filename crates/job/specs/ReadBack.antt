@@ -1,12 +1,12 @@
 -- A record that is built from what it says is read back to exactly that, soft values as they are taken, with any of its optional fields
--- standing or not. No code is in scope: the theorem is over the definitions.
+-- standing or not, for either transform. No code is in scope: the theorem is over the definitions.
 use mathlib.Core.Path.{_≡_, refl, sym, ap, ap₂, subst, _∙_}
 use mathlib.Core.Bool.{Bool, false, _||_}
 use mathlib.Core.List.{List, [], _∷_, _++_, append-assoc}
 use Prim.Native.Nat.{ℕ, zero, suc, _+_, _*_, _/_, _%_, _^_, _≤_, _<_}
 use native.Mathlib.Omega.{arith}
 use borrow.Author.Tests.{le-ltb, ne-eqb}
-use lib.Dec.{ltb}
+use lib.Dec.{ltb, eqb}
 use lib.ListN.{length, take, length-append}
 use lib.Seq.{take-at, drop-at}
 use lib.IntN.{ℤ, pos}
@@ -14,15 +14,15 @@ use Rattle.spec.specs.Code.{code, mapBytes, frozen, pairsIn}
 use Rattle.spec.specs.Score.{taken}
 use Rattle.spec.specs.Faults.{some}
 use Rattle.spec.specs.Refusals.{outOfRange, codeFaults}
-use Rattle.spec.specs.Record.{softFrom, fields, listSize, stopPosition, mapAt, countAt, pairsAt, pairCount, recordCode, softAt, recordMap, recordSoft, shapeFaults, fieldFaults}
+use Rattle.spec.specs.Record.{softFrom, fields, listSize, stopPosition, mapAt, countAt, pairsAt, pairCount, isArikan, recordCode, softAt, recordMap, recordSoft, shapeFaults, fieldFaults}
 use Rattle.spec.specs.Outcome.{padded, reading, job, readRefusal, readServed, readOutcome}
 use Rattle.laws.specs.FirstFault.{First, none, later, is-first, found-after, inside, same, not-either}
 use Rattle.laws.specs.Accepted.{Accepted, no-fault, size-small}
 use Rattle.laws.specs.Pairs.{pairs-long}
 use Rattle.job_refusals.specs.Conditions.{recordCodeFaults, record-code-numbers}
-use Rattle.job.specs.Calls.{same-reading, read-served}
+use Rattle.job.specs.Calls.{same-job, same-reading, read-served}
 use Rattle.job.specs.RecordOf.{Field, absent, present, valueOr, PairField, unannounced, announced, pairsOf, Content, codeSaid, lowFirst, fieldBytes, fieldsByte, pairBytes, sixteenBits, softBytes, headOf, recordOf}
-use Rattle.job.specs.RecordParts.{bits-of, Headed, headed, Paired, paired, length-softBytes, soft-back}
+use Rattle.job.specs.RecordParts.{flag-back, bits-of, Headed, headed, Paired, paired, length-softBytes, soft-back}
 
 -- what a record may say: the ranges of 01 and 02
 pub record Valid (c : Content) : Type 0 where
@@ -84,9 +84,16 @@ module _ (c : Content) where
         ap (take (mapBytes (2 ^ c .m))) (drop-at head rest (mapAt (fields s)) (head-of .ends-at))
         ∙ take-at (c .map) (pairBytes (c .pairs) ++ softBytes (c .soft)) (mapBytes (2 ^ c .m)) (v .accepts .bytes)
 
+    transform-back : isArikan s ≡ c .arikan
+    unfolding recordOf
+    transform-back = ap (λ (b : ℕ). eqb b 1) (bits-of c .bit4) ∙ flag-back (c .arikan)
+
     code-back : recordCode s ≡ codeSaid c
     unfolding recordOf
-    code-back = ap₂ (code (c .m)) map-back (pairs-of .pairs-are)
+    code-back = same-code transform-back map-back (pairs-of .pairs-are)
+      where
+        same-code : {a a′ : Bool} {u u′ q q′ : List ℕ} → a ≡ a′ → u ≡ u′ → q ≡ q′ → code (c .m) a u q ≡ code (c .m) a′ u′ q′
+        same-code i j k = rw (i, j, k)
 
     values-back : recordSoft s ≡ c .soft
     unfolding recordOf
@@ -112,7 +119,7 @@ module _ (c : Content) where
         let few : pairCount s ≤ 256 = omega (arith, pairs-of .count-is, v .accepts .ruled .few) in
         is-first (shapeFaults s ++ fieldFaults s maps softs pairs) 0
         (later (ne-eqb (length s) 0 (λ q. omega (arith, long)))
-        (later (le-ltb 15 (fields s) (bits-of c .known))
+        (later (le-ltb 31 (fields s) (bits-of c .known))
         (later (ne-eqb (length s) 1 (λ q. omega (arith, long)))
         (later (inside 2 10 (c .m) (v .accepts .low) (v .accepts .high))
         (later (le-ltb (length s) (pairsAt s) (omega (arith, long)))
@@ -132,7 +139,7 @@ pub read-back : (c : Content) → Valid c → (map : List ℕ) (soft : List ℤ)
     → 2 ^ c .m ≤ length soft → length (pairsOf (c .pairs)) ≤ length pairs
     → readOutcome (recordOf c) map soft pairs
     ≡ reading
-    (job (c .m) (valueOr 4 (c .size)) (valueOr (2 ^ c .m) (c .stop)) (valueOr 0 (c .frame)) (length (pairsIn (pairsOf (c .pairs)))))
+    (job (c .m) (c .arikan) (valueOr 4 (c .size)) (valueOr (2 ^ c .m) (c .stop)) (valueOr 0 (c .frame)) (length (pairsIn (pairsOf (c .pairs)))))
     (padded 0 (length map) (c .map))
     (padded (pos 0) (length soft) (taken (c .soft)))
     (padded 0 (length pairs) (pairsOf (c .pairs)))
@@ -142,11 +149,8 @@ read-back c v map soft pairs hm hs hp =
     let q = pairs-of c v in
     let room : 4 * pairCount (s c) ≤ length pairs = omega (arith, q .count-is, pairs-long (pairsOf (c .pairs)) (v .accepts .ruled .whole)) in
     sym (read-served (s c) map soft pairs (accepted c v (length map) (length soft) (length pairs) hm hs room))
-    ∙ same-reading (same-job (h .size-is) (h .stop-is) (h .frame-is) (q .count-is)) (ap (padded 0 (length map)) (map-back c v))
+    ∙ same-reading (same-job refl (transform-back c v) (h .size-is) (h .stop-is) (h .frame-is) (q .count-is)) (ap (padded 0 (length map)) (map-back c v))
     (ap (λ (y : List ℤ). padded (pos 0) (length soft) (taken y)) (values-back c v)) (ap (padded 0 (length pairs)) (q .pairs-are))
-  where
-    same-job : {l l′ p p′ f f′ k k′ : ℕ} → l ≡ l′ → p ≡ p′ → f ≡ f′ → k ≡ k′ → job (c .m) l p f k ≡ job (c .m) l′ p′ f′ k′
-    same-job a b d e = rw (a, b, d, e)
 
 -- ---- what is built from a map and pairs of bytes is bytes, so that a slice can hold it: no element is above 255
 abbrev pub aboveByte : List ℕ → Bool

@@ -1,4 +1,5 @@
--- A job record built from what it says: 01, "Job record"; 02, wish 6. Low byte first throughout.
+-- A job record built from what it says: 01, "Job record"; 02, wishes 6 and 13. Low byte first throughout.
+use mathlib.Core.Bool.{Bool, cond}
 use mathlib.Core.List.{List, [], _∷_, _++_}
 use Prim.Native.Nat.{ℕ, zero, suc, _+_, _-_, _*_, _/_, _%_}
 use lib.ListN.{length}
@@ -23,9 +24,10 @@ abbrev pub pairsOf : PairField → List ℕ
 pairsOf unannounced = []
 pairsOf (announced s) = s
 
--- what a record says: m, list size, stop position, frame number, frozen map, pairs and soft values
+-- what a record says: m, whether the transform is Arikan's, list size, stop position, frame number, frozen map, pairs and soft values
 pub record Content : Type 0 where
   pub m : ℕ
+  pub arikan : Bool
   pub size : Field
   pub stop : Field
   pub frame : Field
@@ -34,14 +36,14 @@ pub record Content : Type 0 where
   pub soft : List ℤ
 
 abbrev pub codeSaid : Content → Code
-codeSaid c = code (c .m) (c .map) (pairsOf (c .pairs))
+codeSaid c = code (c .m) (c .arikan) (c .map) (pairsOf (c .pairs))
 
 -- the k low bytes of a number
 abbrev pub lowFirst : ℕ → ℕ → List ℕ
 lowFirst zero x = []
 lowFirst (suc k) x = x % 256 ∷ lowFirst k (x / 256)
 
--- the bit of a field in byte 0, and all of byte 0
+-- the bit of a field in byte 0, that of the transform, and all of byte 0
 abbrev pub fieldBit : Field → ℕ
 fieldBit absent = 0
 fieldBit (present x) = 1
@@ -50,8 +52,11 @@ abbrev pub pairBit : PairField → ℕ
 pairBit unannounced = 0
 pairBit (announced s) = 1
 
+abbrev pub flagBit : Bool → ℕ
+flagBit b = cond b 1 0
+
 abbrev pub fieldsByte : Content → ℕ
-fieldsByte c = fieldBit (c .size) + 2 * fieldBit (c .stop) + 4 * fieldBit (c .frame) + 8 * pairBit (c .pairs)
+fieldsByte c = fieldBit (c .size) + 2 * fieldBit (c .stop) + 4 * fieldBit (c .frame) + 8 * pairBit (c .pairs) + 16 * flagBit (c .arikan)
 
 -- the k bytes of a field that stands; the pairs behind their count of two bytes
 abbrev pub fieldBytes : ℕ → Field → List ℕ

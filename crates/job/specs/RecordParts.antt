@@ -1,12 +1,12 @@
 -- What the parts of a record that is built say of it: byte 0, the fields that stand, the pairs behind the frozen map, and the soft values
 -- behind any bytes.
 use mathlib.Core.Path.{_≡_, refl, sym, ap, ap₂, _∙_}
-use mathlib.Core.Bool.{false}
+use mathlib.Core.Bool.{Bool, true, false}
 use mathlib.Core.List.{List, [], _∷_, _++_, append-assoc}
 use Prim.Native.Nat.{ℕ, _+_, _-_, _*_, _/_, _%_, _^_, _≤_, _<_}
 use native.Mathlib.Omega.{arith}
 use borrow.Author.Tests.{ltb-false}
-use lib.Dec.{ltb}
+use lib.Dec.{ltb, eqb}
 use lib.ListN.{length, take, drop, length-append}
 use lib.Seq.{drop-at, take-append-seam, getD-append-seam, getD-append-add}
 use lib.IntN.{ℤ, pos, negsuc}
@@ -18,7 +18,7 @@ use Rattle.laws.specs.FirstFault.{not-either}
 use Rattle.laws.specs.Accepted.{Ruled}
 use Rattle.laws.specs.Pairs.{pairs-long}
 use Rattle.job_fields.specs.Signed.{signed-low, signed-high}
-use Rattle.job.specs.RecordOf.{Field, absent, present, valueOr, PairField, unannounced, announced, pairsOf, Content, lowFirst, fieldBit, pairBit, fieldsByte, pairBytes, sixteenBits, softBytes, headOf}
+use Rattle.job.specs.RecordOf.{Field, absent, present, valueOr, PairField, unannounced, announced, pairsOf, Content, lowFirst, fieldBit, pairBit, flagBit, fieldsByte, pairBytes, sixteenBits, softBytes, headOf}
 
 -- ---- numbers from their bytes
 one-byte : (x : ℕ) → x < 256 → x % 256 ≡ x
@@ -46,20 +46,31 @@ pair-bit : (q : PairField) → pairBit q ≤ 1
 pair-bit unannounced = omega arith
 pair-bit (announced s) = omega arith
 
-pub record BitsOf (b l p f q : ℕ) : Type 0 where
-  pub known : b ≤ 15
+flag-bit : (b : Bool) → flagBit b ≤ 1
+flag-bit true = omega arith
+flag-bit false = omega arith
+
+pub flag-back : (b : Bool) → eqb (flagBit b) 1 ≡ b
+flag-back true = refl
+flag-back false = refl
+
+pub record BitsOf (b l p f q a : ℕ) : Type 0 where
+  pub known : b ≤ 31
   pub bit0 : b % 2 ≡ l
   pub bit1 : b / 2 % 2 ≡ p
   pub bit2 : b / 4 % 2 ≡ f
   pub bit3 : b / 8 % 2 ≡ q
+  pub bit4 : b / 16 % 2 ≡ a
 
-four-bits : (l p f q : ℕ) → l ≤ 1 → p ≤ 1 → f ≤ 1 → q ≤ 1 → BitsOf (l + 2 * p + 4 * f + 8 * q) l p f q
-four-bits l p f q hl hp hf hq = record { known = omega arith; bit0 = omega arith; bit1 = omega arith; bit2 = omega arith; bit3 = omega arith }
+five-bits : (l p f q a : ℕ) → l ≤ 1 → p ≤ 1 → f ≤ 1 → q ≤ 1 → a ≤ 1 → BitsOf (l + 2 * p + 4 * f + 8 * q + 16 * a) l p f q a
+five-bits l p f q a hl hp hf hq ha =
+    record { known = omega arith; bit0 = omega arith; bit1 = omega arith; bit2 = omega arith; bit3 = omega arith; bit4 = omega arith }
 
-pub bits-of : (c : Content) → BitsOf (fieldsByte c) (fieldBit (c .size)) (fieldBit (c .stop)) (fieldBit (c .frame)) (pairBit (c .pairs))
+pub bits-of : (c : Content)
+    → BitsOf (fieldsByte c) (fieldBit (c .size)) (fieldBit (c .stop)) (fieldBit (c .frame)) (pairBit (c .pairs)) (flagBit (c .arikan))
 bits-of c =
-    four-bits (fieldBit (c .size)) (fieldBit (c .stop)) (fieldBit (c .frame)) (pairBit (c .pairs))
-    (field-bit (c .size)) (field-bit (c .stop)) (field-bit (c .frame)) (pair-bit (c .pairs))
+    five-bits (fieldBit (c .size)) (fieldBit (c .stop)) (fieldBit (c .frame)) (pairBit (c .pairs)) (flagBit (c .arikan))
+    (field-bit (c .size)) (field-bit (c .stop)) (field-bit (c .frame)) (pair-bit (c .pairs)) (flag-bit (c .arikan))
 
 -- ---- the head: what byte 0, m and the fields that stand say of a record, whatever follows
 pub record Headed (b m : ℕ) (l p f : Field) (s : List ℕ) : Type 0 where

@@ -1,5 +1,7 @@
--- The sample record of 01, "The program's output", records that are refused, and records with pairs (02, wish 6), by the definitions.
+-- The sample record of 01, "The program's output", records that are refused, records with pairs (02, wish 6) and one with Arikan's
+-- transform (02, wish 13), by the definitions.
 use mathlib.Core.Path.{_≡_, refl}
+use mathlib.Core.Bool.{true, false}
 use mathlib.Core.List.{List, [], _∷_, _++_, map}
 use Prim.Native.Nat.{ℕ}
 use lib.ListN.{replicate}
@@ -18,7 +20,16 @@ sample = 1 ∷ 2 ∷ 2 ∷ 3 ∷ 5 ∷ 0 ∷ 253 ∷ 255 ∷ 2 ∷ 0 ∷ 7 ∷ 0
 
 -- list size 2, positions 0 and 1 frozen, soft values 5, -3, 2, 7; what is absent: stop position 4, frame 0, no pairs
 unfoldable pub said : Content
-said = record { m = 2; size = present 2; stop = absent; frame = absent; map = 3 ∷ []; pairs = unannounced; soft = pos 5 ∷ negsuc 2 ∷ pos 2 ∷ pos 7 ∷ [] }
+said = record {
+  m = 2;
+  arikan = false;
+  size = present 2;
+  stop = absent;
+  frame = absent;
+  map = 3 ∷ [];
+  pairs = unannounced;
+  soft = pos 5 ∷ negsuc 2 ∷ pos 2 ∷ pos 7 ∷ [];
+}
 
 pub sample-built : recordOf said ≡ sample
 unfolding recordOf said sample
@@ -26,7 +37,7 @@ sample-built = refl
 
 -- read into slices of 2 bytes, 5 numbers and 1 byte
 pub sample-read : readOutcome sample (9 ∷ 9 ∷ []) (pos 9 ∷ pos 9 ∷ pos 9 ∷ pos 9 ∷ pos 9 ∷ []) (9 ∷ [])
-    ≡ reading (job 2 2 4 0 0) (3 ∷ 0 ∷ []) (pos 5 ∷ negsuc 2 ∷ pos 2 ∷ pos 7 ∷ pos 0 ∷ []) (0 ∷ [])
+    ≡ reading (job 2 false 2 4 0 0) (3 ∷ 0 ∷ []) (pos 5 ∷ negsuc 2 ∷ pos 2 ∷ pos 7 ∷ pos 0 ∷ []) (0 ∷ [])
 unfolding sample readOutcome readRefusal readServed first some pastEnd unpacked bitsOf frozen softFrom
 sample-read = refl
 
@@ -38,7 +49,7 @@ sample-refused = refl
 
 -- -2,048, 2,047, -2,047 and 7: -2,047 is handed out for the first
 pub full-scale-read : readOutcome (0 ∷ 2 ∷ 3 ∷ 0 ∷ 248 ∷ 255 ∷ 7 ∷ 1 ∷ 248 ∷ 7 ∷ 0 ∷ []) (9 ∷ []) (pos 9 ∷ pos 9 ∷ pos 9 ∷ pos 9 ∷ []) []
-    ≡ reading (job 2 4 4 0 0) (3 ∷ []) (negsuc 2046 ∷ pos 2047 ∷ negsuc 2046 ∷ pos 7 ∷ []) []
+    ≡ reading (job 2 false 4 4 0 0) (3 ∷ []) (negsuc 2046 ∷ pos 2047 ∷ negsuc 2046 ∷ pos 7 ∷ []) []
 unfolding readOutcome readRefusal readServed first some pastEnd unpacked bitsOf frozen softFrom
 full-scale-read = refl
 
@@ -49,14 +60,15 @@ numberFor s = readRefusal s 1 4 4
 abbrev pub values : List ℕ
 values = 5 ∷ 0 ∷ 253 ∷ 255 ∷ 2 ∷ 0 ∷ 7 ∷ 0 ∷ []
 
--- each condition of a record, in its order: empty; first byte 10 and 20 hex, of one byte and of two; one byte; m = 1; one byte too many;
--- map 10 hex; list size 0 and 33; stop position 5; soft values -2,049 and 2,048; and records with nothing wrong, the first with -2,048
+-- each condition of a record, in its order: empty; first byte 20 and 80 hex, of one byte and of two; one byte, 10 hex and 7; m = 1; one byte
+-- too many; map 10 hex; list size 0 and 33; stop position 5; soft values -2,049 and 2,048; and records with nothing wrong, the first with -2,048
 unfoldable pub records : List (List ℕ)
 records =
     []
-    ∷ (16 ∷ [])
     ∷ (32 ∷ [])
-    ∷ (32 ∷ 1 ∷ [])
+    ∷ (128 ∷ [])
+    ∷ (128 ∷ 1 ∷ [])
+    ∷ (16 ∷ [])
     ∷ (7 ∷ [])
     ∷ (7 ∷ 1 ∷ [])
     ∷ ((7 ∷ 2 ∷ 0 ∷ 5 ∷ 0 ∷ 1 ∷ 2 ∷ 3 ∷ 4 ∷ 16 ∷ 9 ∷ []) ++ values)
@@ -70,7 +82,7 @@ records =
     ∷ ((7 ∷ 2 ∷ 32 ∷ 4 ∷ 0 ∷ 1 ∷ 2 ∷ 3 ∷ 4 ∷ 15 ∷ []) ++ values)
     ∷ []
 
-pub refused-in-order : map numberFor records ≡ 13 ∷ 14 ∷ 14 ∷ 14 ∷ 13 ∷ 1 ∷ 13 ∷ 3 ∷ 4 ∷ 4 ∷ 5 ∷ 7 ∷ 7 ∷ 0 ∷ 0 ∷ []
+pub refused-in-order : map numberFor records ≡ 13 ∷ 14 ∷ 14 ∷ 14 ∷ 13 ∷ 13 ∷ 1 ∷ 13 ∷ 3 ∷ 4 ∷ 4 ∷ 5 ∷ 7 ∷ 7 ∷ 0 ∷ 0 ∷ []
 unfolding records readRefusal first some pastEnd unpacked bitsOf frozen softFrom
 refused-in-order = refl
 
@@ -80,7 +92,7 @@ withPairs pairs = 8 ∷ 2 ∷ 3 ∷ (pairs ++ replicate 8 0)
 
 -- the pair (1, 0), written to a third slice of 5 bytes
 pub pair-read : readOutcome (withPairs (1 ∷ 0 ∷ 1 ∷ 0 ∷ 0 ∷ 0 ∷ [])) (9 ∷ []) (pos 9 ∷ pos 9 ∷ pos 9 ∷ pos 9 ∷ []) (9 ∷ 9 ∷ 9 ∷ 9 ∷ 9 ∷ [])
-    ≡ reading (job 2 4 4 0 1) (3 ∷ []) (replicate 4 (pos 0)) (1 ∷ 0 ∷ 0 ∷ 0 ∷ 0 ∷ [])
+    ≡ reading (job 2 false 4 4 0 1) (3 ∷ []) (replicate 4 (pos 0)) (1 ∷ 0 ∷ 0 ∷ 0 ∷ 0 ∷ [])
 unfolding readOutcome readRefusal readServed first some pastEnd unpacked bitsOf frozen softFrom
 pair-read = refl
 
@@ -111,3 +123,12 @@ paired =
 pub pairs-in-order : map numberFor paired ≡ 13 ∷ 1 ∷ 13 ∷ 13 ∷ 15 ∷ 13 ∷ 13 ∷ 0 ∷ 0 ∷ 15 ∷ 15 ∷ 15 ∷ 15 ∷ 3 ∷ 15 ∷ []
 unfolding paired readRefusal first some pastEnd unpacked bitsOf frozen softFrom
 pairs-in-order = refl
+
+-- ---- Arikan's transform, in a record of all fields: list size 2, stop position 3, frame 9, the pair (1, 0)
+abbrev pub withArikan : List ℕ
+withArikan = (31 ∷ 2 ∷ 2 ∷ 3 ∷ 0 ∷ 9 ∷ 0 ∷ 0 ∷ 0 ∷ 3 ∷ 1 ∷ 0 ∷ 1 ∷ 0 ∷ 0 ∷ 0 ∷ []) ++ values
+
+pub arikan-read : readOutcome withArikan (9 ∷ []) (replicate 4 (pos 9)) (replicate 4 9)
+    ≡ reading (job 2 true 2 3 9 1) (3 ∷ []) (pos 5 ∷ negsuc 2 ∷ pos 2 ∷ pos 7 ∷ []) (1 ∷ 0 ∷ 0 ∷ 0 ∷ [])
+unfolding readOutcome readRefusal readServed first some pastEnd unpacked bitsOf frozen softFrom
+arikan-read = refl

@@ -1,11 +1,12 @@
-// The reader for a host that has no enum: the answer as six numbers.
+// The reader for a host that has no enum: the answer as seven numbers.
 use crate::Job;
 use crate::read_job;
 ghost use mathlib.Core.Path.{_≡_};
 ghost use Rattle.spec.specs.Outcome.{readOutcome};
 ghost use Rattle.job.specs.Answer.{jobOf, fieldsOf, hostReading, forHost};
 
-// 0 and the fields of a record that is read; else the refusal number, and 0 in each field.
+// 0 and the fields of a record that is read, `arikan` 1 where the transform is Arikan's and else 0; or the refusal number, and 0 in each
+// field.
 #[repr(C)]
 pub struct JobFields {
     pub refusal: u32,
@@ -14,20 +15,25 @@ pub struct JobFields {
     pub stop: u32,
     pub frame: u32,
     pub pairs: u32,
+    pub arikan: u32,
 }
 
 fn fields_for_host(job: Job) -> JobFields
     ensures { λ r. ⌜ r ≡ fieldsOf (jobOf job) ⌝ }
 {
     match job {
-        Job::Fields(m, l, p, frame, count) => JobFields {
-            refusal: 0,
-            m: m,
-            list_size: l,
-            stop: p,
-            frame: frame,
-            pairs: count,
-        },
+        Job::Fields(m, arikan, l, p, frame, count) => {
+            let bit = arikan as u32;
+            JobFields {
+                refusal: 0,
+                m: m,
+                list_size: l,
+                stop: p,
+                frame: frame,
+                pairs: count,
+                arikan: bit,
+            }
+        }
         Job::Refused(k) => JobFields {
             refusal: k,
             m: 0,
@@ -35,6 +41,7 @@ fn fields_for_host(job: Job) -> JobFields
             stop: 0,
             frame: 0,
             pairs: 0,
+            arikan: 0,
         },
     }
 }

@@ -8,6 +8,7 @@ pub use host::JobFields;
 pub use host::read_job_fields;
 use job_fields::Layout;
 use job_fields::frame_number;
+use job_fields::is_arikan;
 use job_fields::list_size;
 use job_fields::stop_position;
 use job_refusals::Located;
@@ -20,9 +21,10 @@ ghost use Rattle.spec.specs.Outcome.{reading, readOutcome};
 ghost use Rattle.job_fields.specs.Laid.{Laid};
 ghost use Rattle.job.specs.Answer.{jobOf, jobIn};
 
-// m, list size, stop position, frame number and the number of pairs of a record that is read, or the refusal number.
+// m, whether the transform is Arikan's, list size, stop position, frame number and the number of pairs of a record that is read, or the
+// refusal number.
 pub enum Job {
-    Fields(u32, u32, u32, u32, u32),
+    Fields(u32, bool, u32, u32, u32, u32),
     Refused(u32),
 }
 
@@ -30,10 +32,11 @@ fn fields_of(bytes: &[u8], at: Layout) -> Job
     requires { ⌜ Laid (now bytes) at ⌝ }
     ensures { λ r. ⌜ jobOf r ≡ jobIn (now (bytes .entry)) ⌝ }
 {
+    let arikan = is_arikan(at);
     let l = list_size(bytes, at);
     let p = stop_position(bytes, at);
     let frame = frame_number(bytes, at);
-    Job::Fields(at.m, l, p, frame, at.count)
+    Job::Fields(at.m, arikan, l, p, frame, at.count)
 }
 
 // Reads a record whose shape is right.

@@ -1,5 +1,5 @@
-// Where the parts of a record lie. A bit of the map of fields is worth as much as its field has bytes, so the bits below a field's own say
-// how far behind m it begins.
+// Where the parts of a record lie. Each of the bits 0 to 2 of the map of fields is worth as much as its field has bytes, so the bits below
+// a field's own say how far behind m it begins.
 ghost use mathlib.Core.Path.{_≡_};
 ghost use Prim.Native.Nat.{_+_, _≤_};
 ghost use Rattle.spec.specs.Code.{mapBytes};

@@ -4,6 +4,7 @@ mod layout;
 mod values;
 
 pub use fields::frame_number;
+pub use fields::is_arikan;
 pub use fields::list_size;
 pub use fields::stop_position;
 pub use layout::Layout;

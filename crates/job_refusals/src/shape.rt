@@ -84,7 +84,7 @@ pub fn locate(bytes: &[u8]) -> Located
         return Located::Refused(13);
     }
     let fields = wide(bytes[0]);
-    if fields > 15 {
+    if fields > 31 {
         return Located::Refused(14);
     }
     if bytes.len() == 1 {

@@ -1,11 +1,13 @@
 -- Every cost is at most the sum of the soft values' magnitudes.
 use mathlib.Core.Path.{_≡_, refl}
 use mathlib.Core.List.{List, [], _∷_, _++_}
+use mathlib.Core.Bool.{Bool}
 use Prim.Native.Nat.{ℕ, zero, suc, _+_, _-_, _^_, _<_, _≤_}
 use native.Mathlib.Omega.{arith}
 use lib.ListN.{length, take}
 use lib.IntN.{ℤ, pos, negsuc, natAbs}
-use Rattle.spec.specs.Transform.{evens, odds, transform}
+use Rattle.spec.specs.Transform.{evens, odds}
+use Rattle.laws.specs.Places.{byPlaces}
 use Rattle.laws.specs.Cost.{bitCost, wordCost, magnitude, leastCost, cost}
 use Rattle.laws.specs.Windows.{win}
 use Rattle.laws.specs.Nodes.{node, node-even, node-odd, nodeSoft, by-child}
@@ -26,14 +28,6 @@ unfolding leastCost
 leastCost-le T zero y w = wordCost-le y (T w)
 leastCost-le T (suc k) y w = omega (arith, leastCost-le T k y (w ++ 0 ∷ []))
 
-pub cost-le : (m : ℕ) (y : List ℤ) (w : List ℕ) → cost m y w ≤ magnitude y
-unfolding cost
-cost-le m y w = leastCost-le (transform m) (2 ^ m - length w) y w
-
-pub win-le : (m : ℕ) (y : List ℤ) (v z : List ℕ) → win m y v z ≤ magnitude y
-unfolding win
-win-le m y v z = cost-le m y (take (2 ^ m) (v ++ z))
-
 pub magnitude-halves : (y : List ℤ) → magnitude (evens y) + magnitude (odds y) ≡ magnitude y
 magnitude-halves [] = refl
 magnitude-halves (x ∷ []) = omega arith
@@ -45,3 +39,13 @@ magnitude-nodeSoft zero y i h = omega arith
 magnitude-nodeSoft (suc d) y i h = by-child (λ i. magnitude (nodeSoft (suc d) y i) ≤ magnitude y) d
     (λ j l. rw (node-even evens odds d y j l) (omega (arith, magnitude-halves (nodeSoft d y j), magnitude-nodeSoft d y j l)))
     (λ j l. rw (node-odd evens odds d y j) (omega (arith, magnitude-halves (nodeSoft d y j), magnitude-nodeSoft d y j l))) i h
+
+-- ---- what depends on the layer rule
+module _ (arikan : Bool) where
+  pub cost-le : (m : ℕ) (y : List ℤ) (w : List ℕ) → cost arikan m y w ≤ magnitude y
+  unfolding cost
+  cost-le m y w = leastCost-le (byPlaces arikan m) (2 ^ m - length w) y w
+
+  pub win-le : (m : ℕ) (y : List ℤ) (v z : List ℕ) → win arikan m y v z ≤ magnitude y
+  unfolding win
+  win-le m y v z = cost-le m y (take (2 ^ m) (v ++ z))

@@ -6,12 +6,14 @@ use Prim.Native.Nat.{ℕ, zero, suc, _≤_, _<_, min}
 use native.Mathlib.Omega.{arith}
 use lib.ListN.{length, drop}
 use lib.IntN.{ℤ}
+use Rattle.spec.specs.Bits.{Bits}
 use Rattle.spec.specs.Code.{Code, size, codeTransform}
 use Rattle.spec.specs.Score.{maxℤ}
 use Rattle.spec.specs.Decoder.{sortBy, ahead, families, children, headOf, largestOf, droppedBy, ceilingBy, scoreOf, live, ceiling}
-use Rattle.laws.specs.Cost.{magnitude, cost}
-use Rattle.laws.specs.ScoreCost.{scoreFrom, max-sub, score-is}
-use Rattle.laws.specs.ListCost.{cheaper, All, none, more, all-sort, all-drop, all-append, Long, live-long, family-long, sorted-by-cost}
+use Rattle.laws.specs.Cost.{magnitude}
+use Rattle.laws.specs.ScoreCost.{scoreFrom, max-sub}
+use Rattle.laws.specs.CodeScore.{codeCost, code-score}
+use Rattle.laws.specs.ListCost.{cheaper, All, none, more, all-sort, all-drop, all-append, Prefix, live-prefix, family-prefix, sorted-by-cost}
 
 -- ---- the least of a and a list
 abbrev pub leastOf : ℕ → List ℕ → ℕ
@@ -37,29 +39,34 @@ least-first f a (x ∷ xs) h =
 
 -- the least cost dropped at the first i positions
 abbrev pub lostCost : Code → List ℤ → ℕ → ℕ → ℕ
-lostCost c y l i = leastOf 4294967295 (map (cost (c .m) y) (droppedBy (scoreOf (codeTransform c) c y l) (children c) l i))
+lostCost c y l i = leastOf 4294967295 (map (codeCost c y) (droppedBy (scoreOf (codeTransform c) c y l) (children c) l i))
 
 pub lost-start : (c : Code) (y : List ℤ) (l : ℕ) → lostCost c y l 0 ≡ 4294967295
 unfolding droppedBy
 lost-start c y l = refl
 
-abbrev Short : ℕ → List ℕ → Type 0
-Short n w = length w ≤ n
+-- a prefix of bits, at most n of them
+record Within (n : ℕ) (w : List ℕ) : Type 0 where
+  short : length w ≤ n
+  bits : Bits w
 
-all-short : (n i : ℕ) → i ≤ n → {ws : List (List ℕ)} → All (Long i) ws → All (Short n) ws
-all-short n i h none = none
-all-short n i h (more {x = w} e a) = more {x = w} (omega (arith, e)) (all-short n i h a)
+within : (n i : ℕ) → i ≤ n → {w : List ℕ} → Prefix i w → Within n w
+within n i h p = record { short = omega (arith, p .long); bits = p .bits }
 
-head-long : (i : ℕ) {ws : List (List ℕ)} → All (Long i) ws → 0 < length ws → Long i (headOf ws)
-head-long i none k = absurd (omega arith)
-head-long i (more e a) k = e
+all-within : (n i : ℕ) → i ≤ n → {ws : List (List ℕ)} → All (Prefix i) ws → All (Within n) ws
+all-within n i h none = none
+all-within n i h (more p a) = more (within n i h p) (all-within n i h a)
+
+head-prefix : (i : ℕ) {ws : List (List ℕ)} → All (Prefix i) ws → 0 < length ws → Prefix i (headOf ws)
+head-prefix i none k = absurd (omega arith)
+head-prefix i (more p a) k = p
 
 module _ (c : Code) (y : List ℤ) (l : ℕ) (ey : length y ≡ size c) where
   abbrev s : List ℕ → ℤ
   s = scoreOf (codeTransform c) c y l
 
   abbrev f : List ℕ → ℕ
-  f = cost (c .m) y
+  f = codeCost c y
 
   -- one position more
   pub lost-more : (i : ℕ) → i < size c
@@ -73,17 +80,17 @@ module _ (c : Code) (y : List ℤ) (l : ℕ) (ey : length y ≡ size c) where
       ∙ least-append 4294967295 (map f ds) (map f es)
 
   -- ---- the largest of scores is the least of costs
-  largest-least : (z : ℤ) (a : ℕ) → z ≡ scoreFrom (magnitude y) a → {ws : List (List ℕ)} → All (Short (size c)) ws
+  largest-least : (z : ℤ) (a : ℕ) → z ≡ scoreFrom (magnitude y) a → {ws : List (List ℕ)} → All (Within (size c)) ws
       → largestOf z (map s ws) ≡ scoreFrom (magnitude y) (leastOf a (map f ws))
   largest-least z a e none = e
-  largest-least z a e (more {x = w} {xs = ws} h q) =
-      ap₂ maxℤ (score-is (c .m) y w ey h) (largest-least z a e q) ∙ max-sub (magnitude y) (f w) (leastOf a (map f ws))
+  largest-least z a e (more {x = w} {xs = ws} p q) =
+      ap₂ maxℤ (code-score c y (p .bits) ey (p .short)) (largest-least z a e q) ∙ max-sub (magnitude y) (f w) (leastOf a (map f ws))
 
-  dropped-short : (i : ℕ) → i ≤ size c → All (Short (size c)) (droppedBy s (children c) l i)
+  dropped-within : (i : ℕ) → i ≤ size c → All (Within (size c)) (droppedBy s (children c) l i)
   unfolding droppedBy
-  dropped-short zero h = none
-  dropped-short (suc i) h =
-      all-append (dropped-short i (omega arith)) (all-short (size c) (suc i) h (all-drop l (all-sort (ahead s) (family-long (codeTransform c) c y l i))))
+  dropped-within zero h = none
+  dropped-within (suc i) h =
+      all-append (dropped-within i (omega arith)) (all-within (size c) (suc i) h (all-drop l (all-sort (ahead s) (family-prefix (codeTransform c) c y l i))))
 
   pub ceiling-by-cost : (p : ℕ) → p ≤ size c → let first : List ℕ = headOf (live (codeTransform c) c y l p) in
       0 < length (live (codeTransform c) c y l p) → f first ≤ 4294967295
@@ -91,5 +98,6 @@ module _ (c : Code) (y : List ℤ) (l : ℕ) (ey : length y ≡ size c) where
   unfolding ceilingBy
   ceiling-by-cost p h k small =
       let w : List ℕ = headOf (live (codeTransform c) c y l p) in
-      largest-least (s w) (f w) (score-is (c .m) y w ey (omega (arith, head-long p (live-long (codeTransform c) c y l p) k))) (dropped-short p h)
+      let q : Within (size c) w = within (size c) p h (head-prefix p (live-prefix (codeTransform c) c y l p) k) in
+      largest-least (s w) (f w) (code-score c y (q .bits) ey (q .short)) (dropped-within p h)
       ∙ ap (scoreFrom (magnitude y)) (least-first (f w) 4294967295 (map f (droppedBy s (children c) l p)) small)

@@ -1,6 +1,7 @@
 -- A cell: what the tables hold of a node, and when it is right for the node's soft values and decided prefix.
 use mathlib.Core.Path.{_≡_, refl, sym, ap₂, subst, _∙_}
 use mathlib.Core.List.{List, [], _∷_, _++_}
+use mathlib.Core.Bool.{Bool}
 use Prim.Native.Nat.{ℕ, zero, suc, _+_, _-_, _^_, _<_, min}
 use native.Mathlib.Omega.{arith}
 use lib.ListN.{length, length-append}
@@ -18,47 +19,11 @@ pub record Cell : Type 0 where
   pub sumBit : ℕ
   pub oddBit : ℕ
 
--- of layer m, at the soft values y and the decided prefix v: the window of the prefix cut to odd length, and its last bits
-pub record Good (m : ℕ) (y : List ℤ) (v : List ℕ) (c : Cell) : Type 0 where
-  pub costs-are : (x : ℕ) → x < 16 → c .costs x ≡ at4 (W4 m y (cut v)) x
-  pub even-is : c .evenBit ≡ last (cut v)
-  pub bits-are : kind (length v) ≡ even → (c .sumBit ≡ pairSum v) × (c .oddBit ≡ oddLast v)
-
--- a cell with the same entries and bits
-pub good-ext : (m : ℕ) (y : List ℤ) (v : List ℕ) (c c′ : Cell) → ((x : ℕ) → x < 16 → c′ .costs x ≡ c .costs x) → c′ .evenBit ≡ c .evenBit → c′ .sumBit ≡ c .sumBit → c′ .oddBit ≡ c .oddBit
-    → Good m y v c → Good m y v c′
-good-ext m y v c c′ et ee ep eq g = record {
-  costs-are = λ x h. et x h ∙ g .costs-are x h;
-  even-is = ee ∙ g .even-is;
-  bits-are = λ k. (ep ∙ g .bits-are k .0, eq ∙ g .bits-are k .1);
-}
-
 -- ---- a child's window of three bits
 abbrev pub read3 : Kind → Cell → ℕ → ℕ → ℕ → ℕ
 read3 none c x₁ x₂ x₃ = least (λ t. c .costs (pack4 x₁ x₂ x₃ t))
 read3 odd c x₁ x₂ x₃ = least (λ t. c .costs (pack4 x₁ x₂ x₃ t))
 read3 even c x₁ x₂ x₃ = c .costs (pack4 (c .oddBit) x₁ x₂ x₃)
-
-pub costs-at : (m : ℕ) (y : List ℤ) (v : List ℕ) (c : Cell) → Good m y v c → (a b e d : ℕ) → a < 2 → b < 2 → e < 2 → d < 2
-    → c .costs (pack4 a b e d) ≡ W4 m y (cut v) a b e d
-costs-at m y v c g a b e d ha hb he hd = g .costs-are (pack4 a b e d) (omega arith) ∙ at4-pack (W4 m y (cut v)) a b e d ha hb he hd
-
-read3-shape : {k : Kind} {v : List ℕ} (m : ℕ) (y : List ℤ) (c : Cell) → Shape k v → kind (length v) ≡ k → Good m y v c → Bits v
-    → (x₁ x₂ x₃ : ℕ) → x₁ < 2 → x₂ < 2 → x₃ < 2 → read3 k c x₁ x₂ x₃ ≡ W3 m y v x₁ x₂ x₃
-read3-shape m y c s-none ek g t x₁ x₂ x₃ h₁ h₂ h₃ =
-    ap₂ min (costs-at m y [] c g x₁ x₂ x₃ 0 h₁ h₂ h₃ (omega arith)) (costs-at m y [] c g x₁ x₂ x₃ 1 h₁ h₂ h₃ (omega arith))
-    ∙ sym (win3-odd m y [] x₁ x₂ x₃)
-read3-shape m y c (s-odd v o) ek g t x₁ x₂ x₃ h₁ h₂ h₃ =
-    ap₂ min (costs-at m y v c g x₁ x₂ x₃ 0 h₁ h₂ h₃ (omega arith)) (costs-at m y v c g x₁ x₂ x₃ 1 h₁ h₂ h₃ (omega arith))
-    ∙ rw (cut-odd v o) (sym (win3-odd m y v x₁ x₂ x₃))
-read3-shape m y c (s-even v b o) ek g t x₁ x₂ x₃ h₁ h₂ h₃ =
-    let eq : c .oddBit ≡ b = g .bits-are ek .1 ∙ last-snoc v b in
-    let hb : b < 2 = subst (λ (x : ℕ). x < 2) (last-snoc v b) (bits-last t) in
-    rw eq (costs-at m y (v ++ b ∷ []) c g b x₁ x₂ x₃ hb h₁ h₂ h₃ ∙ (rw (cut-even v b o) (sym (win3-even m y v b x₁ x₂ x₃))))
-
-pub read3-is : (m : ℕ) (y : List ℤ) (v : List ℕ) (c : Cell) → Good m y v c → Bits v
-    → (x₁ x₂ x₃ : ℕ) → x₁ < 2 → x₂ < 2 → x₃ < 2 → read3 (kind (length v)) c x₁ x₂ x₃ ≡ W3 m y v x₁ x₂ x₃
-read3-is m y v c = read3-shape m y c (shape v) refl
 
 -- ---- functions of bits that agree
 abbrev pub Same3 : (ℕ → ℕ → ℕ → ℕ) → (ℕ → ℕ → ℕ → ℕ) → Type 0
@@ -78,9 +43,6 @@ mask4-same (suc (suc (suc (suc r)))) f f′ p a b c d ha hb hc hd = p a b c d ha
 abbrev pub blank : (ℕ → ℕ) → Cell
 blank f = record { costs = f; evenBit = 0; sumBit = 0; oddBit = 0 }
 
-pub blank-good : (m : ℕ) (y : List ℤ) (f : ℕ → ℕ) → ((x : ℕ) → x < 16 → f x ≡ at4 (W4 m y []) x) → Good m y [] (blank f)
-blank-good m y f p = record { costs-are = p; even-is = refl; bits-are = λ e. absurd (none-not-even e) }
-
 -- ---- the top: what the path costs with one bit more
 abbrev pub peek : Kind → Cell → ℕ → ℕ
 peek none c b = least (λ p. least (λ q. least (λ r. c .costs (pack4 b p q r))))
@@ -98,17 +60,58 @@ least3 : (f : ℕ → ℕ) (g : ℕ → ℕ → ℕ → ℕ → ℕ) (a : ℕ) �
     → least (λ p. least (λ q. least (λ r. f (pack4 a p q r)))) ≡ least (λ p. least (λ q. least (g a p q)))
 least3 f g a e = ap₂ min (least2 f g a 0 (λ p q hp hq. e 0 p q (omega arith) hp hq)) (least2 f g a 1 (λ p q hp hq. e 1 p q (omega arith) hp hq))
 
-peek-shape : {k : Kind} {v : List ℕ} (m : ℕ) (y : List ℤ) (c : Cell) (b : ℕ) → Shape k v → kind (length v) ≡ k → Good m y v c → Bits v → b < 2
-    → length v < 2 ^ m → peek k c b ≡ cost m y (v ++ b ∷ [])
-peek-shape m y c b s-none ek g t hb h = least3 (c .costs) (W4 m y []) b (λ p q r hp hq hr. costs-at m y [] c g b p q r hb hp hq hr) ∙ sym (top-odd m y [] b h)
-peek-shape m y c b (s-odd v o) ek g t hb h =
-    least3 (c .costs) (W4 m y v) b (λ p q r hp hq hr. costs-at m y v c g b p q r hb hp hq hr ∙ (rw (cut-odd v o) refl)) ∙ sym (top-odd m y v b h)
-peek-shape m y c b (s-even v x o) ek g t hb h =
-    let eq : c .oddBit ≡ x = g .bits-are ek .1 ∙ last-snoc v x in
-    let hx : x < 2 = subst (λ (z : ℕ). z < 2) (last-snoc v x) (bits-last t) in
-    rw eq (least2 (c .costs) (W4 m y v) x b (λ p q hp hq. costs-at m y (v ++ x ∷ []) c g x b p q hx hb hp hq ∙ (rw (cut-even v x o) refl))
-    ∙ sym (top-even m y v x b (omega (arith, length-append v (x ∷ [])))))
+-- ---- what depends on the layer rule
+module _ (arikan : Bool) where
+  -- of layer m, at the soft values y and the decided prefix v: the window of the prefix cut to odd length, and its last bits
+  pub record Good (m : ℕ) (y : List ℤ) (v : List ℕ) (c : Cell) : Type 0 where
+    pub costs-are : (x : ℕ) → x < 16 → c .costs x ≡ at4 (W4 arikan m y (cut v)) x
+    pub even-is : c .evenBit ≡ last (cut v)
+    pub bits-are : kind (length v) ≡ even → (c .sumBit ≡ pairSum v) × (c .oddBit ≡ oddLast v)
 
-pub peek-is : (m : ℕ) (y : List ℤ) (v : List ℕ) (c : Cell) (b : ℕ) → Good m y v c → Bits v → b < 2 → length v < 2 ^ m
-    → peek (kind (length v)) c b ≡ cost m y (v ++ b ∷ [])
-peek-is m y v c b = peek-shape m y c b (shape v) refl
+  -- a cell with the same entries and bits
+  pub good-ext : (m : ℕ) (y : List ℤ) (v : List ℕ) (c c′ : Cell) → ((x : ℕ) → x < 16 → c′ .costs x ≡ c .costs x) → c′ .evenBit ≡ c .evenBit → c′ .sumBit ≡ c .sumBit → c′ .oddBit ≡ c .oddBit
+      → Good m y v c → Good m y v c′
+  good-ext m y v c c′ et ee ep eq g = record {
+    costs-are = λ x h. et x h ∙ g .costs-are x h;
+    even-is = ee ∙ g .even-is;
+    bits-are = λ k. (ep ∙ g .bits-are k .0, eq ∙ g .bits-are k .1);
+  }
+
+  pub costs-at : (m : ℕ) (y : List ℤ) (v : List ℕ) (c : Cell) → Good m y v c → (a b e d : ℕ) → a < 2 → b < 2 → e < 2 → d < 2
+      → c .costs (pack4 a b e d) ≡ W4 arikan m y (cut v) a b e d
+  costs-at m y v c g a b e d ha hb he hd = g .costs-are (pack4 a b e d) (omega arith) ∙ at4-pack (W4 arikan m y (cut v)) a b e d ha hb he hd
+
+  read3-shape : {k : Kind} {v : List ℕ} (m : ℕ) (y : List ℤ) (c : Cell) → Shape k v → kind (length v) ≡ k → Good m y v c → Bits v
+      → (x₁ x₂ x₃ : ℕ) → x₁ < 2 → x₂ < 2 → x₃ < 2 → read3 k c x₁ x₂ x₃ ≡ W3 arikan m y v x₁ x₂ x₃
+  read3-shape m y c s-none ek g t x₁ x₂ x₃ h₁ h₂ h₃ =
+      ap₂ min (costs-at m y [] c g x₁ x₂ x₃ 0 h₁ h₂ h₃ (omega arith)) (costs-at m y [] c g x₁ x₂ x₃ 1 h₁ h₂ h₃ (omega arith))
+      ∙ sym (win3-odd arikan m y [] x₁ x₂ x₃)
+  read3-shape m y c (s-odd v o) ek g t x₁ x₂ x₃ h₁ h₂ h₃ =
+      ap₂ min (costs-at m y v c g x₁ x₂ x₃ 0 h₁ h₂ h₃ (omega arith)) (costs-at m y v c g x₁ x₂ x₃ 1 h₁ h₂ h₃ (omega arith))
+      ∙ rw (cut-odd v o) (sym (win3-odd arikan m y v x₁ x₂ x₃))
+  read3-shape m y c (s-even v b o) ek g t x₁ x₂ x₃ h₁ h₂ h₃ =
+      let eq : c .oddBit ≡ b = g .bits-are ek .1 ∙ last-snoc v b in
+      let hb : b < 2 = subst (λ (x : ℕ). x < 2) (last-snoc v b) (bits-last t) in
+      rw eq (costs-at m y (v ++ b ∷ []) c g b x₁ x₂ x₃ hb h₁ h₂ h₃ ∙ (rw (cut-even v b o) (sym (win3-even arikan m y v b x₁ x₂ x₃))))
+
+  pub read3-is : (m : ℕ) (y : List ℤ) (v : List ℕ) (c : Cell) → Good m y v c → Bits v
+      → (x₁ x₂ x₃ : ℕ) → x₁ < 2 → x₂ < 2 → x₃ < 2 → read3 (kind (length v)) c x₁ x₂ x₃ ≡ W3 arikan m y v x₁ x₂ x₃
+  read3-is m y v c = read3-shape m y c (shape v) refl
+
+  pub blank-good : (m : ℕ) (y : List ℤ) (f : ℕ → ℕ) → ((x : ℕ) → x < 16 → f x ≡ at4 (W4 arikan m y []) x) → Good m y [] (blank f)
+  blank-good m y f p = record { costs-are = p; even-is = refl; bits-are = λ e. absurd (none-not-even e) }
+
+  peek-shape : {k : Kind} {v : List ℕ} (m : ℕ) (y : List ℤ) (c : Cell) (b : ℕ) → Shape k v → kind (length v) ≡ k → Good m y v c → Bits v → b < 2
+      → length v < 2 ^ m → peek k c b ≡ cost arikan m y (v ++ b ∷ [])
+  peek-shape m y c b s-none ek g t hb h = least3 (c .costs) (W4 arikan m y []) b (λ p q r hp hq hr. costs-at m y [] c g b p q r hb hp hq hr) ∙ sym (top-odd arikan m y [] b h)
+  peek-shape m y c b (s-odd v o) ek g t hb h =
+      least3 (c .costs) (W4 arikan m y v) b (λ p q r hp hq hr. costs-at m y v c g b p q r hb hp hq hr ∙ (rw (cut-odd v o) refl)) ∙ sym (top-odd arikan m y v b h)
+  peek-shape m y c b (s-even v x o) ek g t hb h =
+      let eq : c .oddBit ≡ x = g .bits-are ek .1 ∙ last-snoc v x in
+      let hx : x < 2 = subst (λ (z : ℕ). z < 2) (last-snoc v x) (bits-last t) in
+      rw eq (least2 (c .costs) (W4 arikan m y v) x b (λ p q hp hq. costs-at m y (v ++ x ∷ []) c g x b p q hx hb hp hq ∙ (rw (cut-even v x o) refl))
+      ∙ sym (top-even arikan m y v x b (omega (arith, length-append v (x ∷ [])))))
+
+  pub peek-is : (m : ℕ) (y : List ℤ) (v : List ℕ) (c : Cell) (b : ℕ) → Good m y v c → Bits v → b < 2 → length v < 2 ^ m
+      → peek (kind (length v)) c b ≡ cost arikan m y (v ++ b ∷ [])
+  peek-is m y v c b = peek-shape m y c b (shape v) refl

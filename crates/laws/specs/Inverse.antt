@@ -1,14 +1,35 @@
--- The inverse of the transform: on words of 2 ^ m bits the two undo each other.
-use mathlib.Core.Path.{_≡_, refl, sym, ap, ap₂, _∙_}
+-- The inverse of the convolutional transform: on words of 2 ^ m bits the two undo each other.
+use mathlib.Core.Path.{_≡_, refl, sym, ap, ap₂, subst, _∙_}
 use mathlib.Core.List.{List, [], _∷_}
+use mathlib.Core.Bool.{false}
 use Prim.Native.Nat.{ℕ, zero, suc, _^_}
 use native.Mathlib.Omega.{arith}
 use native.Mathlib.Nat.{suc-inj}
 use lib.ListN.{length}
 use Rattle.spec.specs.Bits.{_⊕_, Bits, nil, cons}
 use Rattle.spec.specs.Transform.{inputA, inputB, interleave, evens, odds, firstBit, joined, transform, inverse}
-use Rattle.laws.specs.BitLaws.{⊕-lt, ⊕-twice, bits-inputA, bits-inputB}
-use Rattle.laws.specs.Layer.{double, pow-double, half-length, length-inputA, length-inputB, length-transform²}
+use Rattle.laws.specs.BitLaws.{⊕-lt, ⊕-twice}
+use Rattle.laws.specs.Places.{inA-is, inB-is, places-transform, bits-inA, bits-inB}
+use Rattle.laws.specs.Layer.{double, half, pow-double, half-length, length-inA, length-inB, length-places, length-places²}
+
+-- ---- what holds of the layer rule of both transforms, of the definition of this one
+pub length-inputA : (u : List ℕ) → length (inputA u) ≡ half (length u)
+length-inputA u = ap length (sym (inA-is u)) ∙ length-inA false u
+
+pub length-inputB : (u : List ℕ) → length (inputB u) ≡ half (length u)
+length-inputB u = ap length (sym (inB-is u)) ∙ length-inB false u
+
+pub bits-inputA : {u : List ℕ} → Bits u → Bits (inputA u)
+bits-inputA {u} p = subst Bits (inA-is u) (bits-inA false p)
+
+pub bits-inputB : {u : List ℕ} → Bits u → Bits (inputB u)
+bits-inputB {u} p = subst Bits (inB-is u) (bits-inB false p)
+
+length-transform² : (m : ℕ) (u v : List ℕ) → length u ≡ length v → length (transform m u) ≡ length (transform m v)
+length-transform² m u v e = ap length (sym (places-transform m u)) ∙ length-places² false m u v e ∙ ap length (places-transform m v)
+
+pub length-transform : (m : ℕ) (u : List ℕ) → length u ≡ 2 ^ m → length (transform m u) ≡ 2 ^ m
+length-transform m u e = ap length (sym (places-transform m u)) ∙ length-places false m u e
 
 -- ---- interleaving and the even and odd places undo each other
 pub evens-interleave : (p q : List ℕ) → length p ≡ length q → evens (interleave p q) ≡ p
@@ -147,7 +168,3 @@ transform-inverse (suc m) c p e =
     ap₂ (λ (a b : List ℕ). interleave (transform m a) (transform m b)) (inputA-joined a b l) (inputB-joined a b l)
     ∙ ap₂ interleave (transform-inverse m (evens c) (bits-evens p) la) (transform-inverse m (odds c) (bits-odds p) lb)
     ∙ interleave-places (2 ^ m) c d
-
--- so the transform is a bijection of these words: each is the transform of its inverse, and of no other word
-pub transform-injective : (m : ℕ) (u v : List ℕ) → Bits u → Bits v → length u ≡ 2 ^ m → length v ≡ 2 ^ m → transform m u ≡ transform m v → u ≡ v
-transform-injective m u v p q d e h = sym (inverse-transform m u p d) ∙ ap (inverse m) h ∙ inverse-transform m v q e

@@ -1,4 +1,5 @@
 pub mod BitLaws
+pub mod Places
 pub mod Cost
 pub mod Layer
 pub mod ScoreCost
@@ -7,9 +8,13 @@ pub mod Windows
 pub mod Nodes
 pub mod Cells
 pub mod Bounds
+pub mod CodeScore
 pub mod ListCost
 pub mod CeilingCost
 pub mod Inverse
+pub mod ArikanPlaces
+pub mod ArikanInverse
+pub mod CodeTransform
 pub mod Soft
 pub mod Taken
 pub mod FirstFault

@@ -2,7 +2,7 @@
 use mathlib.Core.Path.{_≡_, refl, ap, ap₂, _∙_}
 use mathlib.Core.Bool.{Bool, true, false, not, cond, _&&_, _||_}
 use mathlib.Core.List.{List, [], _∷_, _++_}
-use Prim.Native.Nat.{ℕ, zero, suc, _+_, _-_, _*_, _^_, _<_, _≤_}
+use Prim.Native.Nat.{ℕ, zero, suc, _+_, _-_, _*_, _<_, _≤_}
 use native.Mathlib.Omega.{arith}
 use lib.ListN.{length, length-append, take, drop, getD, replicate, length-replicate}
 use lib.IntN.{ℤ}
@@ -10,13 +10,13 @@ use lib.Dec.{T, eqb, ltb, leb, leb→le, le→leb, ltb→lt, lt→ltb, nleb→lt
 use lib.Arith.{lt→nleb}
 use lib.Signed.{leZ}
 use Rattle.spec.specs.Bits.{_⊕_, Bits, nil}
-use Rattle.spec.specs.Transform.{transform}
 use Rattle.spec.specs.Code.{Code, size, frozen, Pair, pairsIn, sumAt, frozenBit, codeTransform}
 use Rattle.spec.specs.Score.{score}
 use Rattle.spec.specs.Decoder.{insertBy, sortBy, lexBefore, ahead, continued, children, families, liveBy, live, scoreOf}
 use Rattle.laws.specs.BitLaws.{bits-snoc, bits-at, ⊕-lt}
-use Rattle.laws.specs.Cost.{cost, magnitude}
-use Rattle.laws.specs.ScoreCost.{leZ-sub, score-is}
+use Rattle.laws.specs.Cost.{magnitude}
+use Rattle.laws.specs.ScoreCost.{leZ-sub}
+use Rattle.laws.specs.CodeScore.{codeCost, code-score}
 
 abbrev pub cheaper : (List ℕ → ℕ) → List ℕ → List ℕ → Bool
 cheaper f v w = ltb (f v) (f w) || (leb (f v) (f w) && lexBefore v w)
@@ -78,17 +78,18 @@ leb-twice a b = bool-ext (leb (2 * a) (2 * b)) (leb a b)
 not-leb : (a b : ℕ) → not (leb b a) ≡ ltb a b
 not-leb a b = bool-ext (not (leb b a)) (ltb a b) (λ t. lt→ltb a b (nleb→lt b a t)) (λ t. lt→nleb b a (ltb→lt a b t))
 
-module _ (m : ℕ) (y : List ℤ) (ey : length y ≡ 2 ^ m) where
-  -- on prefixes the two orders agree
-  pub ahead-cheaper : (v w : List ℕ) → length v ≤ 2 ^ m → length w ≤ 2 ^ m
-      → ahead (score (transform m) (2 ^ m) y) v w ≡ cheaper (cost m y) v w
-  ahead-cheaper v w hv hw =
+module _ (c : Code) (y : List ℤ) (ey : length y ≡ size c) where
+  -- on prefixes of bits the two orders agree
+  pub ahead-cheaper : (v w : List ℕ) → Bits v → Bits w → length v ≤ size c → length w ≤ size c
+      → ahead (score (codeTransform c) (size c) y) v w ≡ cheaper (codeCost c y) v w
+  ahead-cheaper v w tv tw hv hw =
       let s : ℕ = magnitude y in
-      ap₂ (λ (a b : ℤ). not (leZ a b) || (leZ b a && lexBefore v w)) (score-is m y v ey hv) (score-is m y w ey hw)
+      let f : List ℕ → ℕ = codeCost c y in
+      ap₂ (λ (a b : ℤ). not (leZ a b) || (leZ b a && lexBefore v w)) (code-score c y tv ey hv) (code-score c y tw ey hw)
       ∙ ap₂ (λ (a b : Bool). not a || (b && lexBefore v w))
-      (leZ-sub s (2 * cost m y v) (2 * cost m y w) ∙ leb-twice (cost m y w) (cost m y v))
-      (leZ-sub s (2 * cost m y w) (2 * cost m y v) ∙ leb-twice (cost m y v) (cost m y w))
-      ∙ ap (λ (a : Bool). a || (leb (cost m y v) (cost m y w) && lexBefore v w)) (not-leb (cost m y v) (cost m y w))
+      (leZ-sub s (2 * f v) (2 * f w) ∙ leb-twice (f w) (f v))
+      (leZ-sub s (2 * f w) (2 * f v) ∙ leb-twice (f v) (f w))
+      ∙ ap (λ (a : Bool). a || (leb (f v) (f w) && lexBefore v w)) (not-leb (f v) (f w))
 
 -- ---- a list search: what every child has from its parent, every live prefix has
 pub families-all : {P Q : List ℕ → Type 0} (f : List ℕ → List (List ℕ)) → ((w : List ℕ) → P w → All Q (f w)) → {ws : List (List ℕ)} → All P ws → All Q (families f ws)
@@ -139,20 +140,6 @@ module _ (T : List ℕ → List ℕ) (c : Code) (y : List ℤ) (l : ℕ) where
   pub family-long : (i : ℕ) → All (Long (suc i)) (families (children c i) (live T c y l i))
   family-long i = families-all (children c i) (λ w. goes-long i w (goes c i w)) (live-long i)
 
--- one position of the paper decoder, by costs: its children in order, and those that stay
-module _ (c : Code) (y : List ℤ) (l : ℕ) (ey : length y ≡ size c) where
-  pub sorted-by-cost : (i : ℕ) → i < size c → let ws : List (List ℕ) = families (children c i) (live (codeTransform c) c y l i) in
-      sortBy (ahead (scoreOf (codeTransform c) c y l)) ws ≡ sortBy (cheaper (cost (c .m) y)) ws
-  sorted-by-cost i h =
-      sort-same {P = Long (suc i)} (ahead (score (transform (c .m)) (2 ^ c .m) y)) (cheaper (cost (c .m) y))
-      (λ v w p q. ahead-cheaper (c .m) y ey v w (omega (arith, p)) (omega (arith, q)))
-      (family-long (codeTransform c) c y l i)
-
-  pub live-by-cost : (i : ℕ) → i < size c
-      → live (codeTransform c) c y l (suc i) ≡ take l (sortBy (cheaper (cost (c .m) y)) (families (children c i) (live (codeTransform c) c y l i)))
-  unfolding liveBy
-  live-by-cost i h = ap (take l) (sorted-by-cost i h)
-
 -- ---- and are words of bits, since a sum of bits is one
 sum-lt : (ps : List Pair) (i : ℕ) {w : List ℕ} → Bits w → sumAt ps i w < 2
 sum-lt [] i t = omega arith
@@ -170,10 +157,46 @@ continued-bits : (f b : ℕ) (w : List ℕ) → b < 2 → Bits w → All Bits (c
 continued-bits zero b w h t = more (bits-snoc 0 t (omega arith)) (more (bits-snoc 1 t (omega arith)) none)
 continued-bits (suc f) b w h t = more (bits-snoc b t h) none
 
+children-bits : (c : Code) (i : ℕ) (w : List ℕ) → Bits w → All Bits (children c i w)
+unfolding children
+children-bits c i w t = continued-bits (getD (frozen c) i 0) (frozenBit c i w) w (frozen-lt c i t) t
+
 module _ (T : List ℕ → List ℕ) (c : Code) (y : List ℤ) (l : ℕ) where
   pub live-bits : (i : ℕ) → All Bits (live T c y l i)
-  unfolding children
-  live-bits = live-all (scoreOf T c y l) (children c) l {P = λ _. Bits} nil (λ i w t. continued-bits (getD (frozen c) i 0) (frozenBit c i w) w (frozen-lt c i t) t)
+  live-bits = live-all (scoreOf T c y l) (children c) l {P = λ _. Bits} nil (children-bits c)
+
+  pub family-bits : (i : ℕ) → All Bits (families (children c i) (live T c y l i))
+  family-bits i = families-all (children c i) (children-bits c i) (live-bits i)
+
+-- ---- both
+pub record Prefix (n : ℕ) (w : List ℕ) : Type 0 where
+  pub long : Long n w
+  pub bits : Bits w
+
+pub all-prefix : (n : ℕ) {ws : List (List ℕ)} → All (Long n) ws → All Bits ws → All (Prefix n) ws
+all-prefix n none none = none
+all-prefix n (more h a) (more t b) = more (record { long = h; bits = t }) (all-prefix n a b)
+
+module _ (T : List ℕ → List ℕ) (c : Code) (y : List ℤ) (l : ℕ) where
+  pub live-prefix : (i : ℕ) → All (Prefix i) (live T c y l i)
+  live-prefix i = all-prefix i (live-long T c y l i) (live-bits T c y l i)
+
+  pub family-prefix : (i : ℕ) → All (Prefix (suc i)) (families (children c i) (live T c y l i))
+  family-prefix i = all-prefix (suc i) (family-long T c y l i) (family-bits T c y l i)
+
+-- one position of the paper decoder, by costs: its children in order, and those that stay
+module _ (c : Code) (y : List ℤ) (l : ℕ) (ey : length y ≡ size c) where
+  pub sorted-by-cost : (i : ℕ) → i < size c → let ws : List (List ℕ) = families (children c i) (live (codeTransform c) c y l i) in
+      sortBy (ahead (scoreOf (codeTransform c) c y l)) ws ≡ sortBy (cheaper (codeCost c y)) ws
+  sorted-by-cost i h =
+      sort-same {P = Prefix (suc i)} (ahead (scoreOf (codeTransform c) c y l)) (cheaper (codeCost c y))
+      (λ v w p q. ahead-cheaper c y ey v w (p .bits) (q .bits) (omega (arith, p .long)) (omega (arith, q .long)))
+      (family-prefix (codeTransform c) c y l i)
+
+  pub live-by-cost : (i : ℕ) → i < size c
+      → live (codeTransform c) c y l (suc i) ≡ take l (sortBy (cheaper (codeCost c y)) (families (children c i) (live (codeTransform c) c y l i)))
+  unfolding liveBy
+  live-by-cost i h = ap (take l) (sorted-by-cost i h)
 
 -- at each rank
 pub all-at : {A : Type 0} {P : A → Type 0} (d : A) {xs : List A} → All P xs → (r : ℕ) → r < length xs → P (getD xs r d)

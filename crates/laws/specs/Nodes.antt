@@ -10,10 +10,11 @@ use lib.IntN.{ℤ}
 use lib.Dec.{T, ltb, ltb→lt, lt→ltb, nltb→le}
 use lib.Arith.{le→nltb}
 use Rattle.spec.specs.Bits.{_⊕_, Bits, nil, cons}
-use Rattle.spec.specs.Transform.{inputA, inputB, evens, odds}
+use Rattle.spec.specs.Transform.{evens, odds}
+use Rattle.laws.specs.Places.{carry, inA, inB, bits-inA, bits-inB}
 use Rattle.laws.specs.Cost.{last}
-pub use Rattle.laws.specs.BitLaws.{flip-lt, ⊕-lt, ⊕-assoc, bits-snoc, bits-inputA, bits-inputB}
-use Rattle.laws.specs.Layer.{Odd, odd-snoc², inputA-snoc², inputB-snoc², last-snoc, half, length-inputA, length-inputB}
+pub use Rattle.laws.specs.BitLaws.{flip-lt, ⊕-lt, ⊕-assoc, bits-snoc}
+use Rattle.laws.specs.Layer.{Odd, odd-snoc², inA-snoc², inB-snoc², last-snoc, half, length-inA, length-inB}
 
 -- ---- bits
 pub bits-last : {v : List ℕ} → Bits v → last v < 2
@@ -73,31 +74,6 @@ cut-even (x ∷ []) b o = refl
 cut-even (x ∷ y ∷ []) b o = absurd o
 cut-even (x ∷ y ∷ z ∷ r) b o = ap (λ (l : List ℕ). x ∷ y ∷ l) (cut-even (z ∷ r) b o)
 
--- ---- the children's prefixes
-abbrev pub childA : List ℕ → List ℕ
-childA v = inputA (cut v)
-
-abbrev pub childB : List ℕ → List ℕ
-childB v = inputB (cut v)
-
--- one more bit at an empty or an odd prefix: the children stay
-pub childA-odd : (v : List ℕ) (b : ℕ) → Odd v → childA (v ++ b ∷ []) ≡ childA v
-childA-odd v b o = ap inputA (cut-even v b o ∙ sym (cut-odd v o))
-
-pub childB-odd : (v : List ℕ) (b : ℕ) → Odd v → childB (v ++ b ∷ []) ≡ childB v
-childB-odd v b o = ap inputB (cut-even v b o ∙ sym (cut-odd v o))
-
--- at an even prefix v ++ [o] each child gets one bit
-pub childA-even : (v : List ℕ) (o b : ℕ) → Odd v → last v < 2 → childA (v ++ o ∷ [] ++ b ∷ []) ≡ childA (v ++ o ∷ []) ++ ((last v ⊕ o) ⊕ b) ∷ []
-childA-even v o b p h =
-    ap inputA (cut-odd (v ++ o ∷ [] ++ b ∷ []) (odd-snoc² v o b p)) ∙ inputA-snoc² v o b p
-    ∙ ap₂ (λ (l : List ℕ) (x : ℕ). inputA l ++ x ∷ []) (sym (cut-even v o p)) (sym (⊕-assoc (last v) o b h))
-
-pub childB-even : (v : List ℕ) (o b : ℕ) → Odd v → childB (v ++ o ∷ [] ++ b ∷ []) ≡ childB (v ++ o ∷ []) ++ (o ⊕ b) ∷ []
-childB-even v o b p =
-    ap inputB (cut-odd (v ++ o ∷ [] ++ b ∷ []) (odd-snoc² v o b p)) ∙ inputB-snoc² v o b p
-    ∙ ap (λ (l : List ℕ). inputB l ++ (o ⊕ b) ∷ []) (sym (cut-even v o p))
-
 -- one more bit, over a parent whose kind is k
 abbrev pub isEven : Kind → Bool
 isEven none = false
@@ -109,32 +85,6 @@ pairSum v = last (cut v) ⊕ last v
 
 abbrev pub oddLast : List ℕ → ℕ
 oddLast v = last v
-
-childA-shape : {k : Kind} {v : List ℕ} (b p : ℕ) → Shape k v → Bits v → (k ≡ even → p ≡ pairSum v)
-    → childA (v ++ b ∷ []) ≡ cond (isEven k) (childA v ++ (p ⊕ b) ∷ []) (childA v)
-childA-shape b p s-none t e = refl
-childA-shape b p (s-odd v o) t e = childA-odd v b o
-childA-shape b p (s-even v x o) t e =
-    let cv : cut (v ++ x ∷ []) ≡ v = cut-even v x o in
-    let h : last v < 2 = subst (λ (l : List ℕ). last l < 2) cv (bits-last (bits-cut t)) in
-    let ep : p ≡ last v ⊕ x = e refl ∙ ap₂ _⊕_ (ap last cv) (last-snoc v x) in
-    rw ep (childA-even v x b o h)
-
-childB-shape : {k : Kind} {v : List ℕ} (b q : ℕ) → Shape k v → (k ≡ even → q ≡ oddLast v)
-    → childB (v ++ b ∷ []) ≡ cond (isEven k) (childB v ++ (q ⊕ b) ∷ []) (childB v)
-childB-shape b q s-none e = refl
-childB-shape b q (s-odd v o) e = childB-odd v b o
-childB-shape b q (s-even v x o) e =
-    let eq : q ≡ x = e refl ∙ last-snoc v x in
-    rw eq (childB-even v x b o)
-
-pub childA-step : (v : List ℕ) (b p : ℕ) → Bits v → (kind (length v) ≡ even → p ≡ pairSum v)
-    → childA (v ++ b ∷ []) ≡ cond (isEven (kind (length v))) (childA v ++ (p ⊕ b) ∷ []) (childA v)
-childA-step v b p t e = childA-shape b p (shape v) t e
-
-pub childB-step : (v : List ℕ) (b q : ℕ) → (kind (length v) ≡ even → q ≡ oddLast v)
-    → childB (v ++ b ∷ []) ≡ cond (isEven (kind (length v))) (childB v ++ (q ⊕ b) ∷ []) (childB v)
-childB-step v b q e = childB-shape b q (shape v) e
 
 -- ---- phases
 abbrev pub down : ℕ → ℕ
@@ -155,12 +105,6 @@ half-cut [] = refl
 half-cut (x ∷ []) = refl
 half-cut (x ∷ y ∷ []) = refl
 half-cut (x ∷ y ∷ z ∷ r) = ap suc (half-cut (z ∷ r))
-
-pub length-childA : (v : List ℕ) → length (childA v) ≡ down (length v)
-length-childA v = length-inputA (cut v) ∙ half-cut v
-
-pub length-childB : (v : List ℕ) → length (childB v) ≡ down (length v)
-length-childB v = length-inputB (cut v) ∙ half-cut v
 
 -- the phase of the layer d below the top, from the top's
 abbrev pub phase : ℕ → ℕ → ℕ
@@ -229,23 +173,6 @@ by-child Z d p q i h = go (ltb i (2 ^ d)) refl
 abbrev pub nodeSoft : ℕ → List ℤ → ℕ → List ℤ
 nodeSoft = node evens odds
 
-abbrev pub nodePrefix : ℕ → List ℕ → ℕ → List ℕ
-nodePrefix = node childA childB
-
-pub length-nodePrefix : (d : ℕ) (w : List ℕ) (i : ℕ) → i < 2 ^ d → length (nodePrefix d w i) ≡ phase d (length w)
-unfolding node
-length-nodePrefix zero w i h = refl
-length-nodePrefix (suc d) w i h = by-child (λ i. length (nodePrefix (suc d) w i) ≡ phase (suc d) (length w)) d
-    (λ j l. ap length (node-even childA childB d w j l) ∙ length-childA (nodePrefix d w j) ∙ ap down (length-nodePrefix d w j l))
-    (λ j l. ap length (node-odd childA childB d w j) ∙ length-childB (nodePrefix d w j) ∙ ap down (length-nodePrefix d w j l)) i h
-
-pub bits-nodePrefix : (d : ℕ) (w : List ℕ) (i : ℕ) → i < 2 ^ d → Bits w → Bits (nodePrefix d w i)
-unfolding node
-bits-nodePrefix zero w i h t = t
-bits-nodePrefix (suc d) w i h t = by-child (λ i. Bits (nodePrefix (suc d) w i)) d
-    (λ j l. rw (node-even childA childB d w j l) (bits-inputA (bits-cut (bits-nodePrefix d w j l t))))
-    (λ j l. rw (node-odd childA childB d w j) (bits-inputB (bits-cut (bits-nodePrefix d w j l t)))) i h
-
 -- ---- lengths
 down-le : (n k : ℕ) → n ≤ 2 * k → down n ≤ k
 down-le zero k h = omega arith
@@ -280,11 +207,6 @@ none-not-even e = let z : _≡_ {A = ℕ} 0 1 = ap num e in omega arith
     num odd = 0
     num even = 1
 
-pub nodePrefix-nil : (d i : ℕ) → i < 2 ^ d → nodePrefix d [] i ≡ []
-nodePrefix-nil zero i h = unfold node in refl
-nodePrefix-nil (suc d) i h = by-child (λ i. nodePrefix (suc d) [] i ≡ []) d
-    (λ j l. node-even childA childB d [] j l ∙ ap childA (nodePrefix-nil d j l)) (λ j l. node-odd childA childB d [] j ∙ ap childB (nodePrefix-nil d j l)) i h
-
 -- a phase's kind, by tests that code can make
 pub kind-of-odd : (n : ℕ) → n % 2 ≡ 1 → kind n ≡ odd
 kind-of-odd zero h = absurd (omega arith)
@@ -297,3 +219,84 @@ kind-of-even zero h p = absurd (omega arith)
 kind-of-even (suc zero) h p = absurd (omega arith)
 kind-of-even (suc (suc zero)) h p = refl
 kind-of-even (suc (suc (suc n))) h p = kind-of-even (suc n) (omega arith) (omega arith)
+
+-- ---- what depends on the layer rule
+module _ (arikan : Bool) where
+  -- ---- the children's prefixes
+  abbrev pub childA : List ℕ → List ℕ
+  childA v = inA arikan (cut v)
+
+  abbrev pub childB : List ℕ → List ℕ
+  childB v = inB arikan (cut v)
+
+  -- one more bit at an empty or an odd prefix: the children stay
+  pub childA-odd : (v : List ℕ) (b : ℕ) → Odd v → childA (v ++ b ∷ []) ≡ childA v
+  childA-odd v b o = ap (inA arikan) (cut-even v b o ∙ sym (cut-odd v o))
+
+  pub childB-odd : (v : List ℕ) (b : ℕ) → Odd v → childB (v ++ b ∷ []) ≡ childB v
+  childB-odd v b o = ap (inB arikan) (cut-even v b o ∙ sym (cut-odd v o))
+
+  -- at an even prefix v ++ [o] each child gets one bit
+  pub childA-even : (v : List ℕ) (o b : ℕ) → Odd v → last v < 2 → childA (v ++ o ∷ [] ++ b ∷ []) ≡ childA (v ++ o ∷ []) ++ ((last v ⊕ o) ⊕ carry arikan b) ∷ []
+  childA-even v o b p h =
+      ap (inA arikan) (cut-odd (v ++ o ∷ [] ++ b ∷ []) (odd-snoc² v o b p)) ∙ inA-snoc² arikan v o b p
+      ∙ ap₂ (λ (l : List ℕ) (x : ℕ). inA arikan l ++ x ∷ []) (sym (cut-even v o p)) (sym (⊕-assoc (last v) o (carry arikan b) h))
+
+  pub childB-even : (v : List ℕ) (o b : ℕ) → Odd v → childB (v ++ o ∷ [] ++ b ∷ []) ≡ childB (v ++ o ∷ []) ++ (o ⊕ carry arikan b) ∷ []
+  childB-even v o b p =
+      ap (inB arikan) (cut-odd (v ++ o ∷ [] ++ b ∷ []) (odd-snoc² v o b p)) ∙ inB-snoc² arikan v o b p
+      ∙ ap (λ (l : List ℕ). inB arikan l ++ (o ⊕ carry arikan b) ∷ []) (sym (cut-even v o p))
+
+  childA-shape : {k : Kind} {v : List ℕ} (b p : ℕ) → Shape k v → Bits v → (k ≡ even → p ≡ pairSum v)
+      → childA (v ++ b ∷ []) ≡ cond (isEven k) (childA v ++ (p ⊕ carry arikan b) ∷ []) (childA v)
+  childA-shape b p s-none t e = refl
+  childA-shape b p (s-odd v o) t e = childA-odd v b o
+  childA-shape b p (s-even v x o) t e =
+      let cv : cut (v ++ x ∷ []) ≡ v = cut-even v x o in
+      let h : last v < 2 = subst (λ (l : List ℕ). last l < 2) cv (bits-last (bits-cut t)) in
+      let ep : p ≡ last v ⊕ x = e refl ∙ ap₂ _⊕_ (ap last cv) (last-snoc v x) in
+      rw ep (childA-even v x b o h)
+
+  childB-shape : {k : Kind} {v : List ℕ} (b q : ℕ) → Shape k v → (k ≡ even → q ≡ oddLast v)
+      → childB (v ++ b ∷ []) ≡ cond (isEven k) (childB v ++ (q ⊕ carry arikan b) ∷ []) (childB v)
+  childB-shape b q s-none e = refl
+  childB-shape b q (s-odd v o) e = childB-odd v b o
+  childB-shape b q (s-even v x o) e =
+      let eq : q ≡ x = e refl ∙ last-snoc v x in
+      rw eq (childB-even v x b o)
+
+  pub childA-step : (v : List ℕ) (b p : ℕ) → Bits v → (kind (length v) ≡ even → p ≡ pairSum v)
+      → childA (v ++ b ∷ []) ≡ cond (isEven (kind (length v))) (childA v ++ (p ⊕ carry arikan b) ∷ []) (childA v)
+  childA-step v b p t e = childA-shape b p (shape v) t e
+
+  pub childB-step : (v : List ℕ) (b q : ℕ) → (kind (length v) ≡ even → q ≡ oddLast v)
+      → childB (v ++ b ∷ []) ≡ cond (isEven (kind (length v))) (childB v ++ (q ⊕ carry arikan b) ∷ []) (childB v)
+  childB-step v b q e = childB-shape b q (shape v) e
+
+  pub length-childA : (v : List ℕ) → length (childA v) ≡ down (length v)
+  length-childA v = length-inA arikan (cut v) ∙ half-cut v
+
+  pub length-childB : (v : List ℕ) → length (childB v) ≡ down (length v)
+  length-childB v = length-inB arikan (cut v) ∙ half-cut v
+
+  abbrev pub nodePrefix : ℕ → List ℕ → ℕ → List ℕ
+  nodePrefix = node childA childB
+
+  pub length-nodePrefix : (d : ℕ) (w : List ℕ) (i : ℕ) → i < 2 ^ d → length (nodePrefix d w i) ≡ phase d (length w)
+  unfolding node
+  length-nodePrefix zero w i h = refl
+  length-nodePrefix (suc d) w i h = by-child (λ i. length (nodePrefix (suc d) w i) ≡ phase (suc d) (length w)) d
+      (λ j l. ap length (node-even childA childB d w j l) ∙ length-childA (nodePrefix d w j) ∙ ap down (length-nodePrefix d w j l))
+      (λ j l. ap length (node-odd childA childB d w j) ∙ length-childB (nodePrefix d w j) ∙ ap down (length-nodePrefix d w j l)) i h
+
+  pub bits-nodePrefix : (d : ℕ) (w : List ℕ) (i : ℕ) → i < 2 ^ d → Bits w → Bits (nodePrefix d w i)
+  unfolding node
+  bits-nodePrefix zero w i h t = t
+  bits-nodePrefix (suc d) w i h t = by-child (λ i. Bits (nodePrefix (suc d) w i)) d
+      (λ j l. rw (node-even childA childB d w j l) (bits-inA arikan (bits-cut (bits-nodePrefix d w j l t))))
+      (λ j l. rw (node-odd childA childB d w j) (bits-inB arikan (bits-cut (bits-nodePrefix d w j l t)))) i h
+
+  pub nodePrefix-nil : (d i : ℕ) → i < 2 ^ d → nodePrefix d [] i ≡ []
+  nodePrefix-nil zero i h = unfold node in refl
+  nodePrefix-nil (suc d) i h = by-child (λ i. nodePrefix (suc d) [] i ≡ []) d
+      (λ j l. node-even childA childB d [] j l ∙ ap childA (nodePrefix-nil d j l)) (λ j l. node-odd childA childB d [] j ∙ ap childB (nodePrefix-nil d j l)) i h

@@ -9,10 +9,10 @@ use lib.ListN.{length, length-append}
 use lib.Dec.{T, leb, leb→le, nleb→lt, leb·zero, leb·suc-zero, leb·suc-suc}
 use lib.IntN.{ℤ, pos, negsuc, negℤ, sucℤ, natAbs, _+ℤ_, _-ℤ_, +ℤ-assoc, +ℤ-comm, +ℤ-idr, +ℤ-idl, +ℤ-invr, negℤ-+ℤ, sucℤ-+ℤ}
 use lib.Signed.{leZ}
-use Rattle.spec.specs.Transform.{transform}
+use Rattle.laws.specs.Places.{byPlaces}
 use Rattle.spec.specs.Score.{signed, correlation, maxℤ, largest, score}
 use Rattle.laws.specs.Cost.{bitCost, wordCost, magnitude, leastCost, cost}
-use Rattle.laws.specs.Layer.{length-transform}
+use Rattle.laws.specs.Layer.{length-places}
 
 -- the score of a prefix of this cost, where the soft values' magnitudes add up to total
 abbrev pub scoreFrom : ℕ → ℕ → ℤ
@@ -111,7 +111,7 @@ module _ (T : List ℕ → List ℕ) (n : ℕ) (same : (u : List ℕ) → length
       = λ b. largest-is k y (w ++ b ∷ []) ey (omega (arith, length-append w (b ∷ []))) in
       ap₂ maxℤ (ih 0) (ih 1) ∙ max-sub (magnitude y) (leastCost T k y (w ++ 0 ∷ [])) (leastCost T k y (w ++ 1 ∷ []))
 
-pub score-is : (m : ℕ) (y : List ℤ) (w : List ℕ) → length y ≡ 2 ^ m → length w ≤ 2 ^ m
-    → score (transform m) (2 ^ m) y w ≡ scoreFrom (magnitude y) (cost m y w)
+pub score-is : (arikan : Bool) (m : ℕ) (y : List ℤ) (w : List ℕ) → length y ≡ 2 ^ m → length w ≤ 2 ^ m
+    → score (byPlaces arikan m) (2 ^ m) y w ≡ scoreFrom (magnitude y) (cost arikan m y w)
 unfolding score cost
-score-is m y w ey h = largest-is (transform m) (2 ^ m) (length-transform m) (2 ^ m - length w) y w ey (omega arith)
+score-is arikan m y w ey h = largest-is (byPlaces arikan m) (2 ^ m) (length-places arikan m) (2 ^ m - length w) y w ey (omega arith)

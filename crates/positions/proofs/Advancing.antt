@@ -7,7 +7,7 @@ use native.Mathlib.Nat.{mod-eq-of-lt}
 use lib.ListN.{length, take, drop, getD}
 use lib.IntN.{ℤ}
 use Rattle.spec.specs.Code.{Code}
-use Rattle.laws.specs.Cost.{cost}
+use Rattle.laws.specs.CodeScore.{codeCost}
 use Rattle.laws.specs.CeilingCost.{lostCost}
 use Rattle.windows.specs.Op.{Wrote}
 use Rattle.tables.specs.Tab.{slotStart}
@@ -29,9 +29,9 @@ use Rattle.positions.proofs.Keeping.{take-same}
 module _ (c : Code) (y : List ℤ) (deep l h i at : ℕ) (s r : Live) (t b slots b′ slots′ t″ b″ slots″ : List ℕ)
     (list : l ≤ 32) (few : s .count ≤ l) (few′ : r .count ≤ l) (long : length (entries r) ≡ r .count) (low : slotStart 1 l l ≤ h) (place : at ≡ 3 * h + l * i)
     (hi : i < 2 ^ suc (suc deep)) (run : Running c y deep l h i s t b slots)
-    (step : Step (cost (c .m) y) (suc i) (prefixes c y l i) (prefixes c y l (suc i)) (entries r)) (lost : r .lost ≡ lostCost c y l (suc i))
+    (step : Step (codeCost c y) (suc i) (prefixes c y l i) (prefixes c y l (suc i)) (entries r)) (lost : r .lost ≡ lostCost c y l (suc i))
     (set : Settled deep l h i at (r .count) (r .code) b slots b′ slots′)
-    (adv : Advance deep l h (r .count) i t (take (3 * h) b′) slots′ t″ (take (3 * h) b″) slots″)
+    (adv : Advance (c .arikan) deep l h (r .count) i t (take (3 * h) b′) slots′ t″ (take (3 * h) b″) slots″)
     (base : Kept h t t″) (history : drop (3 * h) b″ ≡ drop (3 * h) b′) where
   ps : List (List ℕ)
   ps = prefixes c y l i
@@ -43,7 +43,7 @@ module _ (c : Code) (y : List ℤ) (deep l h i at : ℕ) (s r : Live) (t b slots
   unfolding qs
   count-is = sym long ∙ step .rep .counted
 
-  bred : (k : ℕ) → k < r .count → Bred (cost (c .m) y) ps (getD qs k []) (getD (r .code) k 0)
+  bred : (k : ℕ) → k < r .count → Bred (codeCost c y) ps (getD qs k []) (getD (r .code) k 0)
   unfolding ps qs
   bred k hk = bred-at r k step long hk
 
@@ -68,7 +68,7 @@ module _ (c : Code) (y : List ℤ) (deep l h i at : ℕ) (s r : Live) (t b slots
   same-bits : take (3 * h) (set .b₁) ≡ take (3 * h) b
   same-bits = take-same (3 * h) b (set .b₁) (set .noted .same) (λ j l. set .noted .below j (omega arith))
 
-  paths : Paths deep l h (r .count) i t (take (3 * h) b) slots′
+  paths : Paths (c .arikan) deep l h (r .count) i t (take (3 * h) b) slots′
   unfolding ws bs
   paths = record {
     y = y;
@@ -79,13 +79,13 @@ module _ (c : Code) (y : List ℤ) (deep l h i at : ℕ) (s r : Live) (t b slots
     bit = λ k hk. omega arith;
     long = λ k hk. prefix-long c y l i (getD (set .parents) k 0) (omega (arith, known k hk, run .counted));
     room = hi;
-    ready = λ k d e. cut-right deep (s .count) (r .count) (set .parents) slots slots′ (omega arith) known (set .cut) k d l h y (prefixAt c y l i) t (take (3 * h) b) (omega arith) (run .ready hi k d e);
+    ready = λ k d e. cut-right deep (s .count) (r .count) (set .parents) slots slots′ (omega arith) known (set .cut) (c .arikan) k d l h y (prefixAt c y l i) t (take (3 * h) b) (omega arith) (run .ready hi k d e);
     base = run .base;
   }
 
-  down : Down l h (r .count) i 0 ws (grown ws bs) (take (3 * h) b) (take (3 * h) b′)
+  down : Down (c .arikan) l h (r .count) i 0 ws (grown ws bs) (take (3 * h) b) (take (3 * h) b′)
   unfolding bs
-  down = top-down l h (r .count) i ws bs (take (3 * h) b) (take (3 * h) b′) (set .bits) few′ low (λ k hk. refl)
+  down = top-down (c .arikan) l h (r .count) i ws bs (take (3 * h) b) (take (3 * h) b′) (set .bits) few′ low (λ k hk. refl)
       (subst (λ (z : List ℕ). Wrote (λ k. getD (set .bits) k 0 % 2) (fieldAt h (i % 2) + slotStart 1 l 0) (r .count) z (take (3 * h) b′)) same-bits (set .top))
 
   pub running-more : Running c y deep l h (suc i) r t″ b″ slots″
@@ -96,10 +96,10 @@ module _ (c : Code) (y : List ℤ) (deep l h i at : ℕ) (s r : Live) (t b slots
     rep = step .rep;
     costs = λ k hk. bred k (omega (arith, count-is)) .costs;
     lost = lost;
-    ready = λ _ k d e m hm. subst (λ (w : List ℕ). Right k d y w (cellIn l h t″ (take (3 * h) b″) (2 ^ d) (slotW slots″ d m) (slotO slots″ d m))) (next-is m hm)
+    ready = λ _ k d e m hm. subst (λ (w : List ℕ). Right (c .arikan) k d y w (cellIn l h t″ (take (3 * h) b″) (2 ^ d) (slotW slots″ d m) (slotO slots″ d m))) (next-is m hm)
         (adv (take (3 * h) b) paths down k d e (omega arith) m hm);
     base = λ j x hj hx. base (16 * (h + j) + x) (omega arith) ∙ run .base j x hj hx;
     traced = rw history (rw (set .history)
-        (traced-more (cost (c .m) y) l i at (prefixes c y l i) (prefixes c y l (suc i)) (r .code) b (set .b₁) (3 * h)
+        (traced-more (codeCost c y) l i at (prefixes c y l i) (prefixes c y l (suc i)) (r .code) b (set .b₁) (3 * h)
         (λ k hk. bred k (omega (arith, count-is))) (omega (arith, count-is)) place (rw count-is at (set .noted)) (run .traced)));
   }

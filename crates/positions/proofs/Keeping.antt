@@ -125,7 +125,7 @@ running-front c y deep l h n i s t b b′ slots stop same front run =
       rep = run .rep;
       costs = run .costs;
       lost = run .lost;
-      ready = λ hi k d e. subst (λ (u : List ℕ). AllRight k d l h (s .count) y (prefixAt c y l i) t u (slotW slots d) (slotO slots d)) (sym bits) (run .ready hi k d e);
+      ready = λ hi k d e. subst (λ (u : List ℕ). AllRight (c .arikan) k d l h (s .count) y (prefixAt c y l i) t u (slotW slots d) (slotO slots d)) (sym bits) (run .ready hi k d e);
       base = run .base;
       traced = λ r hr. trace-kept (drop (3 * h) b′) (λ j hj. getD-drop (3 * h) b′ j 0 ∙ front (3 * h + j) (omega (arith, notes)) ∙ sym (getD-drop (3 * h) b j 0)) (run .traced r hr);
     }

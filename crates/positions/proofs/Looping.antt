@@ -1,5 +1,6 @@
 -- The loop over the positions: what holds at each turn.
 use mathlib.Core.Path.{_≡_, refl, sym, ap, subst, _∙_}
+use mathlib.Core.Bool.{Bool}
 use mathlib.Core.List.{List, [], _∷_}
 use Prim.Native.Nat.{ℕ, suc, _+_, _*_, _<_, _≤_}
 use native.Mathlib.Omega.{arith}
@@ -20,7 +21,7 @@ use Rattle.positions.specs.Own.{OwnFits, Owned}
 use Rattle.positions.proofs.Starting.{standing-start, running-start}
 use Rattle.positions.proofs.Keeping.{kept-on, running-front}
 
-pub record Looping (deep l h n p i at from seen held rows : ℕ) (map pairs t₀ b₀ t b slots : List ℕ) (s : Live) : Type 0 where
+pub record Looping (arikan : Bool) (deep l h n p i at from seen held rows : ℕ) (map pairs t₀ b₀ t b slots : List ℕ) (s : Live) : Type 0 where
   pub near : i ≤ p
   pub place : at ≡ 3 * h + l * i
   pub words : length t ≡ length t₀
@@ -33,11 +34,11 @@ pub record Looping (deep l h n p i at from seen held rows : ℕ) (map pairs t₀
   pub order : seen ≤ i
   pub kept : RowsKept l n seen held (drop (3 * h) b)
   pub standing : Standing deep l s slots
-  pub running : (c : Code) (y : List ℤ) → c .map ≡ map → c .pairs ≡ pairs → Call c y deep → Started deep l h y t₀ → Zeros b₀ → Running c y deep l h i s t b slots
+  pub running : (c : Code) (y : List ℤ) → c .arikan ≡ arikan → c .map ≡ map → c .pairs ≡ pairs → Call c y deep → Started arikan deep l h y t₀ → Zeros b₀ → Running c y deep l h i s t b slots
 
-module _ (deep l h n p rows₀ : ℕ) (map pairs t₀ b₀ : List ℕ) (f : RunFits deep l h n p (length t₀) (length b₀) rows₀ map pairs) where
+module _ (arikan : Bool) (deep l h n p rows₀ : ℕ) (map pairs t₀ b₀ : List ℕ) (f : RunFits deep l h n p (length t₀) (length b₀) rows₀ map pairs) where
   pub looping-start : (at rows : ℕ) (slots : List ℕ) (s : Live) → at ≡ 3 * h → rows ≡ rows₀ → length slots ≡ 1024 → Zeros slots → Holds s 1 (0 ∷ []) → Rep 0 ([] ∷ []) (entries s) → s .lost ≡ 4294967295
-      → Looping deep l h n p 0 at 0 0 0 rows map pairs t₀ b₀ t₀ b₀ slots s
+      → Looping arikan deep l h n p 0 at 0 0 0 rows map pairs t₀ b₀ t₀ b₀ slots s
   looping-start at rows slots s e er long none holds rep nothing = record {
     near = omega arith;
     place = omega arith;
@@ -51,10 +52,10 @@ module _ (deep l h n p rows₀ : ℕ) (map pairs t₀ b₀ : List ℕ) (f : RunF
     order = omega arith;
     kept = λ r w hr t. absurd (omega arith);
     standing = standing-start deep l s slots (f .sizes .some) (f .sizes .deepest) (omega arith) none holds;
-    running = λ c y em ep call a zeros. running-start c y deep l h n s t₀ b₀ slots (f .sizes) call a zeros none holds rep nothing;
+    running = λ c y ea em ep call a zeros. running-start c y deep l h n s t₀ b₀ slots (f .sizes) call (subst (λ (x : Bool). Started x deep l h y t₀) (sym ea) a) zeros none holds rep nothing;
   }
 
-  module _ (i at from seen held rows : ℕ) (t b slots : List ℕ) (s : Live) (k : Looping deep l h n p i at from seen held rows map pairs t₀ b₀ t b slots s) (hi : i < p) where
+  module _ (i at from seen held rows : ℕ) (t b slots : List ℕ) (s : Live) (k : Looping arikan deep l h n p i at from seen held rows map pairs t₀ b₀ t b slots s) (hi : i < p) where
     inside : l * suc i ≤ l * n
     inside = mul-le-mul-left l (omega (arith, f .stop))
 
@@ -101,8 +102,8 @@ module _ (deep l h n p rows₀ : ℕ) (map pairs t₀ b₀ : List ℕ) (f : RunF
           ∙ ap (λ (u : List ℕ). sumAt (pairsIn u) i w) (sym ep)
 
       pub looping-more : (t′ b″ slots′ : List ℕ) (rows′ : ℕ) (r : Live) → rows′ ≡ rows → length t′ ≡ length t → length b″ ≡ length b′ → length slots′ ≡ length slots
-          → Standing deep l r slots′ → Beside (3 * h) at l b′ b″ → Moves deep l h i map own s t b′ slots r t′ b″ slots′
-          → Looping deep l h n p (i + 1) (at + l) to seen′ held′ rows′ map pairs t₀ b₀ t′ b″ slots′ r
+          → Standing deep l r slots′ → Beside (3 * h) at l b′ b″ → Moves arikan deep l h i map own s t b′ slots r t′ b″ slots′
+          → Looping arikan deep l h n p (i + 1) (at + l) to seen′ held′ rows′ map pairs t₀ b₀ t′ b″ slots′ r
       looping-more t′ b″ slots′ rows′ r er et eb′ es st side mv = record {
         near = omega arith;
         place = omega (arith, k .place);
@@ -116,16 +117,16 @@ module _ (deep l h n p rows₀ : ℕ) (map pairs t₀ b₀ : List ℕ) (f : RunF
         order = omega (arith, got .order);
         kept = kept-on l h n i seen′ held′ at b′ b″ (k .place) (got .order) (omega (arith, f .stop)) eb′ side (got .kept (k .kept));
         standing = st;
-        running = λ c y em ep call a zeros.
-            let old : Running c y deep l h i s t b slots = k .running c y em ep call a zeros in
+        running = λ c y ea em ep call a zeros.
+            let old : Running c y deep l h i s t b slots = k .running c y ea em ep call a zeros in
             subst (λ (j : ℕ). Running c y deep l h j r t′ b″ slots′) (sym (add-one i))
-            (mv c y em (owns c y ep old) (running-front c y deep l h n i s t b b′ slots (omega (arith, f .stop)) eb (got .front) old));
+            (mv c y ea em (owns c y ep old) (running-front c y deep l h n i s t b b′ slots (omega (arith, f .stop)) eb (got .front) old));
       }
 
-pub looping-end : (deep l h n p i at from seen held rows : ℕ) (map pairs t₀ b₀ t b slots : List ℕ) (s : Live) → i ≡ p
-    → Looping deep l h n p i at from seen held rows map pairs t₀ b₀ t b slots s → Runs deep l h p map pairs t₀ b₀ s t b
-looping-end deep l h n p i at from seen held rows map pairs t₀ b₀ t b slots s e k = record {
+pub looping-end : (arikan : Bool) (deep l h n p i at from seen held rows : ℕ) (map pairs t₀ b₀ t b slots : List ℕ) (s : Live) → i ≡ p
+    → Looping arikan deep l h n p i at from seen held rows map pairs t₀ b₀ t b slots s → Runs arikan deep l h p map pairs t₀ b₀ s t b
+looping-end arikan deep l h n p i at from seen held rows map pairs t₀ b₀ t b slots s e k = record {
   few = k .standing .few;
-  ran = λ c y em ep call a zeros.
-      record { slots = slots; running = subst (λ (j : ℕ). Running c y deep l h j s t b slots) e (k .running c y em ep call a zeros) };
+  ran = λ c y ea em ep call a zeros.
+      record { slots = slots; running = subst (λ (j : ℕ). Running c y deep l h j s t b slots) e (k .running c y ea em ep call a zeros) };
 }

@@ -8,7 +8,7 @@ use lib.Seq.{getD-take}
 use lib.IntN.{ℤ}
 use Rattle.spec.specs.Code.{Code}
 use Rattle.spec.specs.Decoder.{liveBy}
-use Rattle.laws.specs.Cost.{cost}
+use Rattle.laws.specs.CodeScore.{codeCost}
 use Rattle.laws.specs.Layer.{cost-empty}
 use Rattle.laws.specs.CeilingCost.{lost-start}
 use Rattle.tables.specs.Right.{Right, cellIn}
@@ -36,13 +36,13 @@ standing-start deep l s slots hl hd long zeros a = record {
   };
 }
 
-module _ (c : Code) (y : List ℤ) (deep l h n : ℕ) (s : Live) (t b slots : List ℕ) (z : BlockSizes deep l h n) (call : Call c y deep) (a : Started deep l h y t)
+module _ (c : Code) (y : List ℤ) (deep l h n : ℕ) (s : Live) (t b slots : List ℕ) (z : BlockSizes deep l h n) (call : Call c y deep) (a : Started (c .arikan) deep l h y t)
     (zeros : Zeros b) (none : Zeros slots) (holds : Holds s 1 (0 ∷ [])) (rep : Rep 0 ([] ∷ []) (entries s)) (nothing : s .lost ≡ 4294967295) where
   first : getD (s .code) 0 0 ≡ 0
   first = sym (entries-at s 0 (omega (arith, one s holds))) ∙ ap (λ (xs : List ℕ). getD xs 0 0) (holds .are)
 
-  costless : (r : ℕ) → r < 1 → costOf (getD (s .code) r 0) ≡ cost (c .m) y (getD ([] ∷ []) r [])
-  costless zero h = ap costOf first ∙ sym (cost-empty (c .m) y)
+  costless : (r : ℕ) → r < 1 → costOf (getD (s .code) r 0) ≡ codeCost c y (getD ([] ∷ []) r [])
+  costless zero h = ap costOf first ∙ sym (cost-empty (c .arikan) (c .m) y)
   costless (suc r) h = absurd (omega arith)
 
   empty : (r : ℕ) → r < 1 → getD {A = List ℕ} ([] ∷ []) r [] ≡ []
@@ -59,8 +59,8 @@ module _ (c : Code) (y : List ℤ) (deep l h n : ℕ) (s : Live) (t b slots : Li
     lost = nothing ∙ sym (lost-start c y l);
     ready = λ _ k d e r hr.
         let h1 : r < 1 = omega (arith, one s holds) in
-        subst (λ (w : List ℕ). Right k d y w (cellIn l h t (take (3 * h) b) (2 ^ d) (slotW slots d r) (slotO slots d r))) (sym (empty r h1))
-        (started-ready deep l h y t (take (3 * h) b) (z .some) (omega (arith, z .half)) a (λ j hj. getD-take (3 * h) b j 0 (omega arith) ∙ zeros j) k d e (slotW slots d) (slotO slots d) (none (32 * d + 0)) r h1);
+        subst (λ (w : List ℕ). Right (c .arikan) k d y w (cellIn l h t (take (3 * h) b) (2 ^ d) (slotW slots d r) (slotO slots d r))) (sym (empty r h1))
+        (started-ready (c .arikan) deep l h y t (take (3 * h) b) (z .some) (omega (arith, z .half)) a (λ j hj. getD-take (3 * h) b j 0 (omega arith) ∙ zeros j) k d e (slotW slots d) (slotO slots d) (none (32 * d + 0)) r h1);
     base = a .base;
     traced = λ r hr. subst (Trace l (drop (3 * h) b) 0 r) (sym (empty r hr)) (begun (omega (arith, z .some)));
   }

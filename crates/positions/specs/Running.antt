@@ -1,12 +1,14 @@
 -- What holds after i positions of a call: the live list, the tables, the slot numbers and the history stand for the live prefixes
 -- of the paper decoder, and the list has the least cost of those that it dropped.
 use mathlib.Core.Path.{_≡_, refl}
+use mathlib.Core.Bool.{Bool}
 use mathlib.Core.List.{List, []}
 use Prim.Native.Nat.{ℕ, zero, suc, _+_, _*_, _<_, _≤_, _^_}
 use lib.ListN.{length, take, drop, getD, replicate}
 use lib.IntN.{ℤ}
 use Rattle.spec.specs.Code.{Code, frozenBit}
-use Rattle.laws.specs.Cost.{cost, magnitude}
+use Rattle.laws.specs.Cost.{magnitude}
+use Rattle.laws.specs.CodeScore.{codeCost}
 use Rattle.laws.specs.CeilingCost.{lostCost}
 use Rattle.laws.specs.MapBits.{flagsOf}
 use Rattle.laws.specs.Accepted.{Ruled}
@@ -46,11 +48,11 @@ pub record Running (c : Code) (y : List ℤ) (deep l h i : ℕ) (s : Live) (t b 
   pub call : Call c y deep
   pub counted : s .count ≡ length (prefixes c y l i)
   pub rep : Rep i (prefixes c y l i) (entries s)
-  pub costs : (r : ℕ) → r < length (prefixes c y l i) → costOf (getD (s .code) r 0) ≡ cost (c .m) y (prefixAt c y l i r)
+  pub costs : (r : ℕ) → r < length (prefixes c y l i) → costOf (getD (s .code) r 0) ≡ codeCost c y (prefixAt c y l i r)
   pub lost : s .lost ≡ lostCost c y l i
   pub ready : i < 2 ^ suc (suc deep) → (k d : ℕ) → k + d ≡ deep
-      → AllRight k d l h (s .count) y (prefixAt c y l i) t (take (3 * h) b) (slotW slots d) (slotO slots d)
-  pub base : (j x : ℕ) → j < 2 ^ deep → x < 16 → getD t (16 * (h + j) + x) 0 ≡ F (nodeSoft deep y j) x
+      → AllRight (c .arikan) k d l h (s .count) y (prefixAt c y l i) t (take (3 * h) b) (slotW slots d) (slotO slots d)
+  pub base : (j x : ℕ) → j < 2 ^ deep → x < 16 → getD t (16 * (h + j) + x) 0 ≡ F (c .arikan) (nodeSoft deep y j) x
   pub traced : Traced l i (drop (3 * h) b) (prefixes c y l i)
 
 -- what the code itself keeps, whatever the prefixes are
@@ -78,10 +80,10 @@ pub record Beside (k at l : ℕ) (b b′ : List ℕ) : Type 0 where
   pub below : (j : ℕ) → k ≤ j → j < at → getD b′ j 0 ≡ getD b j 0
   pub above : (j : ℕ) → at + l ≤ j → getD b′ j 0 ≡ getD b j 0
 
--- for whatever code and soft values: from what holds after i positions to what holds after one more
-abbrev pub Moves : ℕ → ℕ → ℕ → ℕ → List ℕ → List ℕ → Live → List ℕ → List ℕ → List ℕ → Live → List ℕ → List ℕ → List ℕ → Type 0
-Moves deep l h i map own s t b slots r t′ b′ slots′ =
-    (c : Code) (y : List ℤ) → c .map ≡ map → Owns c y l i own → Running c y deep l h i s t b slots → Running c y deep l h (suc i) r t′ b′ slots′
+-- for whatever code with this transform and map, and whatever soft values: from what holds after i positions to what holds after one more
+abbrev pub Moves : Bool → ℕ → ℕ → ℕ → ℕ → List ℕ → List ℕ → Live → List ℕ → List ℕ → List ℕ → Live → List ℕ → List ℕ → List ℕ → Type 0
+Moves arikan deep l h i map own s t b slots r t′ b′ slots′ =
+    (c : Code) (y : List ℤ) → c .arikan ≡ arikan → c .map ≡ map → Owns c y l i own → Running c y deep l h i s t b slots → Running c y deep l h (suc i) r t′ b′ slots′
 
 -- positions 0 to p - 1 of n; behind the history there is room for a row of n bytes for each path
 pub record RunFits (deep l h n p numbers bytes rows : ℕ) (map pairs : List ℕ) : Type 0 where
@@ -109,7 +111,7 @@ pub record Ran (c : Code) (y : List ℤ) (deep l h p : ℕ) (r : Live) (t b : Li
   pub slots : List ℕ
   pub running : Running c y deep l h p r t b slots
 
--- for whatever code and soft values: from the start to the stop position
-pub record Runs (deep l h p : ℕ) (map pairs t b : List ℕ) (r : Live) (t′ b′ : List ℕ) : Type 0 where
+-- for whatever code with this transform, map and pairs, and whatever soft values: from the start to the stop position
+pub record Runs (arikan : Bool) (deep l h p : ℕ) (map pairs t b : List ℕ) (r : Live) (t′ b′ : List ℕ) : Type 0 where
   pub few : r .count ≤ l
-  pub ran : (c : Code) (y : List ℤ) → c .map ≡ map → c .pairs ≡ pairs → Call c y deep → Started deep l h y t → Zeros b → Ran c y deep l h p r t′ b′
+  pub ran : (c : Code) (y : List ℤ) → c .arikan ≡ arikan → c .map ≡ map → c .pairs ≡ pairs → Call c y deep → Started arikan deep l h y t → Zeros b → Ran c y deep l h p r t′ b′

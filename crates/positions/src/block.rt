@@ -20,9 +20,10 @@ pub fn positions(
     l: usize,
     h: usize,
     n: usize,
+    arikan: bool,
 ) -> Live
     requires { ⌜ RunFits deep l h n p (length (now t)) (length (now b)) (length (now rows)) (now map) (now pairs) ⌝ }
-    ensures { λ r. ⌜ Runs deep l h p (now (map .entry)) (now (pairs .entry)) (now (t .entry)) (now (b .entry)) r (now (t .exit)) (now (b .exit)) ⌝ }
+    ensures { λ r. ⌜ Runs arikan deep l h p (now (map .entry)) (now (pairs .entry)) (now (t .entry)) (now (b .entry)) r (now (t .exit)) (now (b .exit)) ⌝ }
 {
     let mut slots = [0u8; 1024];
     let mut s = Live::start();
@@ -48,7 +49,21 @@ pub fn positions(
             s.count,
             &mut bits,
         );
-        s = position(t, b, &mut slots, map, &bits, s, i, at, deep, l, h, n);
+        s = position(
+            t,
+            b,
+            &mut slots,
+            map,
+            &bits,
+            s,
+            i,
+            at,
+            deep,
+            l,
+            h,
+            n,
+            arikan,
+        );
         from = to;
         at += l;
         i += 1;

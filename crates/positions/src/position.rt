@@ -99,16 +99,17 @@ pub(crate) fn position(
     l: usize,
     h: usize,
     n: usize,
+    arikan: bool,
 ) -> Live
     requires { ⌜ PositionFits deep l h n i at (length (now t)) (length (now b)) (length (now slots)) (length (now map)) × Standing deep l s (now slots) ⌝ }
     ensures { λ r. ⌜ Standing deep l r (now (slots .exit)) × Beside (3 * h) at l (now (b .entry)) (now (b .exit))
-        × Moves deep l h i (now (map .entry)) (now (bits .entry)) s (now (t .entry)) (now (b .entry)) (now (slots .entry)) r (now (t .exit)) (now (b .exit)) (now (slots .exit)) ⌝ }
+        × Moves arikan deep l h i (now (map .entry)) (now (bits .entry)) s (now (t .entry)) (now (b .entry)) (now (slots .entry)) r (now (t .exit)) (now (b .exit)) (now (slots .exit)) ⌝ }
 {
     let k = 3 * h;
     let next = choose(t, &b[..k], slots, map, bits, s, i, l, h);
     let count = next.count;
     let code = next.code;
     settle(b, slots, &code, count, i, at, deep, l, h);
-    advance(t, &mut b[..k], slots, i, deep, count, l, h, n);
+    advance(t, &mut b[..k], slots, i, deep, count, l, h, n, arikan);
     next
 }

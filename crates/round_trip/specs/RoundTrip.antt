@@ -1,5 +1,5 @@
--- Theorems of the encoder and the extractor, over the outcomes of their calls, with no code in scope: what they do to each other's
--- results, which words the extractor refuses with 12, and what a refused call writes.
+-- Theorems of the encoder and the extractor, over the outcomes of their calls, with no code in scope and for either transform: what they
+-- do to each other's results, which words the extractor refuses with 12, and what a refused call writes.
 use mathlib.Core.Path.{_≡_, refl, sym, ap, _∙_}
 use mathlib.Core.Bool.{Bool, true, false, true≢false}
 use mathlib.Core.List.{List, []}
@@ -16,8 +16,7 @@ use Rattle.laws.specs.FirstFault.{First, none, here, later, is-first, of-first,
 use Rattle.laws.specs.FrozenMap.{length-gathered, bits-gathered}
 use Rattle.laws.specs.Inputs.{intact-input, input-intact, length-input, bits-input, input-gives}
 use Rattle.laws.specs.Accepted.{Accepted, accepted-of, flag-count}
-use Rattle.laws.specs.Layer.{length-transform}
-use Rattle.laws.specs.Inverse.{inverse-transform, transform-inverse, bits-transform, bits-inverse, length-inverse}
+use Rattle.laws.specs.CodeTransform.{undone, redone, length-transformed, bits-transformed, length-inverted, bits-inverted}
 use Rattle.code.specs.Given.{Given, givenFaults, given-numbers, given-of}
 use Rattle.encoder.specs.EncodeCall.{encodes, encode-accepted, encode-served}
 use Rattle.extractor.specs.ExtractCall.{inputFaults, extracts, extract-accepted, extract-served}
@@ -29,14 +28,14 @@ module _ {c : Code} (a : Accepted c) {p : List ℕ} (t : Bits p) where
 
   input-of-encoded : inputOf c (encoded c p) ≡ inputFor c p
   unfolding encoded inputOf
-  input-of-encoded = inverse-transform (c .m) (inputFor c p) (bits-input c t) long-input
+  input-of-encoded = undone (c .m) (inputFor c p) (bits-input c t) long-input (c .arikan)
 
   pub encoded-intact : broken c (inputOf c (encoded c p)) ≡ false
   encoded-intact = ap (broken c) input-of-encoded ∙ input-intact c (a .ruled .right) t
 
   pub encoded-given : Given c (size c) (encoded c p)
   unfolding encoded
-  encoded-given = record { accepts = a; long = length-transform (c .m) (inputFor c p) long-input; bits = bits-transform (c .m) (bits-input c t) }
+  encoded-given = record { accepts = a; long = length-transformed (c .arikan) (c .m) (inputFor c p) long-input; bits = bits-transformed (c .arikan) (c .m) (bits-input c t) }
 
   pub extracted-encoded : length p ≡ payloadSize c → extracted c (encoded c p) ≡ p
   unfolding extracted
@@ -46,21 +45,21 @@ module _ {c : Code} (a : Accepted c) {p : List ℕ} (t : Bits p) where
 module _ {c : Code} {w : List ℕ} (g : Given c (size c) w) where
   flags-of-input : length (inputOf c w) ≡ length (frozen c)
   unfolding inputOf
-  flags-of-input = length-inverse (c .m) w (g .long) ∙ sym (flag-count (g .accepts))
+  flags-of-input = length-inverted (c .arikan) (c .m) w (g .long) ∙ sym (flag-count (g .accepts))
 
   pub extracted-given : Given c (payloadSize c) (extracted c w)
   unfolding extracted inputOf
   extracted-given = record {
     accepts = g .accepts;
     long = length-gathered (frozen c) (inputOf c w) flags-of-input;
-    bits = bits-gathered (frozen c) (bits-inverse (c .m) (g .bits));
+    bits = bits-gathered (frozen c) (bits-inverted (c .arikan) (c .m) (g .bits));
   }
 
   pub encoded-extracted : broken c (inputOf c w) ≡ false → encoded c (extracted c w) ≡ w
   unfolding encoded extracted inputOf
   encoded-extracted b =
-      ap (codeTransform c) (intact-input c (g .accepts .ruled .right) (bits-inverse (c .m) (g .bits)) flags-of-input b)
-      ∙ transform-inverse (c .m) w (g .bits) (g .long)
+      ap (codeTransform c) (intact-input c (g .accepts .ruled .right) (bits-inverted (c .arikan) (c .m) (g .bits)) flags-of-input b)
+      ∙ redone (c .m) w (g .bits) (g .long) (c .arikan)
 
 -- ---- the calls, one after the other
 -- the front of what a call wrote

@@ -11,7 +11,7 @@ use Rattle.spec.specs.Code.{Code, size, codeTransform}
 use Rattle.spec.specs.Decoder.{Row, rowOf, live, rows}
 use Rattle.spec.specs.Refusals.{Room}
 use Rattle.spec.specs.Outcome.{concat, Lent, decodedRows}
-use Rattle.laws.specs.Layer.{length-transform}
+use Rattle.laws.specs.CodeTransform.{length-transformed}
 use Rattle.laws.specs.ListCost.{All, none, more, Long, filled-long, live-long}
 use Rattle.row_text.specs.Output.{frameLine, rowLine, rowLines, outputOf}
 
@@ -53,7 +53,7 @@ module _ (c : Code) (y : List ℤ) (l p : ℕ) (h : p ≤ size c) where
   wide (w ∷ ws) (more e all) =
       let u : List ℕ = w ++ replicate (size c - length w) 0 in
       let long : length u ≡ 2 ^ c .m = filled-long (size c) w (omega (arith, e, h)) in
-      more (long, length-transform (c .m) u long) (wide ws all)
+      more (long, length-transformed (c .arikan) (c .m) u long) (wide ws all)
 
   -- what is written from slices that hold the paper decoder's rows is their text, with any ceiling
   pub output-of-served : (frame : ℕ) (top : ℤ) (r : Room) → let x : Lent = decodedRows r (rows (codeTransform c) c y l p) top .left in

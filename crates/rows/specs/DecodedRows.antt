@@ -11,9 +11,10 @@ use Rattle.spec.specs.Score.{score}
 use Rattle.spec.specs.Decoder.{Row, live, rowOf, rows}
 use Rattle.spec.specs.Refusals.{Room}
 use Rattle.spec.specs.Outcome.{padded, concat, decoded, lent, decoding, decodedRows}
-use Rattle.laws.specs.Cost.{cost, magnitude}
-use Rattle.laws.specs.ScoreCost.{scoreFrom, score-is}
-use Rattle.laws.specs.ListCost.{All, none, more, Long, live-long, all-at}
+use Rattle.laws.specs.Cost.{magnitude}
+use Rattle.laws.specs.ScoreCost.{scoreFrom}
+use Rattle.laws.specs.CodeScore.{codeCost, code-score}
+use Rattle.laws.specs.ListCost.{All, none, more, Prefix, live-long, live-prefix, all-at}
 use Rattle.rows.specs.Blocks.{AllWide, filledRow, rowsOf, rows-back, wide-filled, getD-map}
 use Rattle.rows.specs.Trace.{Traced, InputsWritten, prefixesBack, prefixes-back}
 use Rattle.rows.specs.Words.{WordsWritten}
@@ -32,7 +33,7 @@ prefixes c y l p = live (codeTransform c) c y l p
 
 -- costs of the live prefixes, by rank
 abbrev pub RowCosts : Code → List ℤ → ℕ → ℕ → List ℕ → Type 0
-RowCosts c y l p costs = (r : ℕ) → r < length (prefixes c y l p) → getD costs r 0 ≡ cost (c .m) y (getD (prefixes c y l p) r [])
+RowCosts c y l p costs = (r : ℕ) → r < length (prefixes c y l p) → getD costs r 0 ≡ codeCost c y (getD (prefixes c y l p) r [])
 
 -- A block decoded up to p: its live prefixes lie in the history g and have these costs, and the three calls have written its outputs.
 pub record BlockWritten (c : Code) (y : List ℤ) (l p count total : ℕ) (g costs inputs words : List ℕ) (scores : List ℤ) (room : Room) : Type 0 where
@@ -45,7 +46,7 @@ pub record BlockWritten (c : Code) (y : List ℤ) (l p count total : ℕ) (g cos
   pub costs-are : RowCosts c y l p costs
   pub total-is : total ≡ magnitude y
   pub inputs-left : InputsWritten l p (size c) count (room .inputs) g inputs
-  pub words-left : WordsWritten (c .m) (size c) count (room .words) inputs words
+  pub words-left : WordsWritten (c .m) (c .arikan) (size c) count (room .words) inputs words
   pub scores-left : ScoresWritten total count (room .scores) costs scores
 
 module _ {c : Code} {y : List ℤ} {l p count total : ℕ} {g costs inputs words : List ℕ} {scores : List ℤ} {room : Room}
@@ -86,22 +87,23 @@ module _ {c : Code} {y : List ℤ} {l p count total : ℕ} {g costs inputs words
       ∙ ap (λ (xs : List (List ℕ)). padded 0 (room .words) (concat (map T xs))) cut
       ∙ ap (λ (xs : List (List ℕ)). padded 0 (room .words) (concat xs)) (map-map T (filledRow (size c)) ps ∙ sym (map-map (λ (r : Row). r .word) row ps))
 
-  taken : take count costs ≡ map (cost (c .m) y) ps
+  taken : take count costs ≡ map (codeCost c y) ps
   unfolding ps
   taken =
       let long : length (take count costs) ≡ count = length-take-le count costs (b .there) in
-      ext-getD 0 (take count costs) (map (cost (c .m) y) ps) (long ∙ sym (length-map ps (cost (c .m) y) ∙ b .few))
-      (λ i h. getD-take count costs i 0 (omega arith) ∙ b .costs-are i (omega (arith, b .few)) ∙ sym (getD-map (cost (c .m) y) ps i [] 0 (omega (arith, b .few))))
+      ext-getD 0 (take count costs) (map (codeCost c y) ps) (long ∙ sym (length-map ps (codeCost c y) ∙ b .few))
+      (λ i h. getD-take count costs i 0 (omega arith) ∙ b .costs-are i (omega (arith, b .few)) ∙ sym (getD-map (codeCost c y) ps i [] 0 (omega (arith, b .few))))
 
   pub scores-are : scores ≡ padded (pos 0) (room .scores) (map (λ (r : Row). r .score) (rows (codeTransform c) c y l p))
   unfolding ps T row rows
   scores-are =
-      let is : (w : List ℕ) → Long p w → scoreFrom (magnitude y) (cost (c .m) y w) ≡ score T (size c) y w = λ w h. sym (score-is (c .m) y w (b .soft) (omega (arith, h, b .stop))) in
+      let is : (w : List ℕ) → Prefix p w → scoreFrom (magnitude y) (codeCost c y w) ≡ score T (size c) y w
+      = λ w h. sym (code-score c y (h .bits) (b .soft) (omega (arith, h .long, b .stop))) in
       b .scores-left
       ∙ ap (padded (pos 0) (room .scores))
       (ap₂ (λ (t : ℕ) (ks : List ℕ). map (scoreFrom t) ks) (b .total-is) taken
-      ∙ map-map (scoreFrom (magnitude y)) (cost (c .m) y) ps
-      ∙ map-same (λ w. scoreFrom (magnitude y) (cost (c .m) y w)) (score T (size c) y) is (live-long T c y l p)
+      ∙ map-map (scoreFrom (magnitude y)) (codeCost c y) ps
+      ∙ map-same (λ w. scoreFrom (magnitude y) (codeCost c y w)) (score T (size c) y) is (live-prefix T c y l p)
       ∙ sym (map-map (λ (r : Row). r .score) row ps))
 
   -- the answer and the outputs of a call that is served, where both tables are cleared, with whatever ceiling

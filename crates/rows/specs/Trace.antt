@@ -9,7 +9,7 @@ use lib.Seq.{take-length, take-suc}
 use Rattle.spec.specs.Bits.{Bits, nil, cons}
 use Rattle.spec.specs.Outcome.{padded, concat}
 use Rattle.laws.specs.BitLaws.{bits-snoc}
-use Rattle.laws.specs.MapBits.{bits-append}
+use Rattle.laws.specs.BitLaws.{bits-append}
 use Rattle.rows.specs.Blocks.{filledRow, concat-more}
 
 -- the history g leads back from rank r after i positions to the prefix w

@@ -1,10 +1,11 @@
 -- What the call that writes the words of input rows takes and leaves.
 use mathlib.Core.Path.{_≡_}
+use mathlib.Core.Bool.{Bool}
 use mathlib.Core.List.{List, map}
 use Prim.Native.Nat.{ℕ, _*_, _^_, _≤_}
 use lib.ListN.{length}
 use Rattle.spec.specs.Bits.{Bits}
-use Rattle.spec.specs.Transform.{transform}
+use Rattle.spec.specs.Transform.{transformBy}
 use Rattle.spec.specs.Outcome.{padded, concat}
 use Rattle.rows.specs.Blocks.{rowsOf}
 
@@ -20,5 +21,5 @@ pub record WordsFit (m n l count N : ℕ) (inputs : List ℕ) : Type 0 where
   pub bits : Bits inputs
 
 -- N places after the words are written: the transforms of the first count rows of the inputs, then 0
-abbrev pub WordsWritten : ℕ → ℕ → ℕ → ℕ → List ℕ → List ℕ → Type 0
-WordsWritten m n count N inputs words = words ≡ padded 0 N (concat (map (transform m) (rowsOf n count inputs)))
+abbrev pub WordsWritten : ℕ → Bool → ℕ → ℕ → ℕ → List ℕ → List ℕ → Type 0
+WordsWritten m arikan n count N inputs words = words ≡ padded 0 N (concat (map (transformBy arikan m) (rowsOf n count inputs)))

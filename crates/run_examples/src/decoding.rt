@@ -42,10 +42,11 @@ fn say_decoded(answer: Decoded, inputs: &[u8], words: &[u8], scores: &[i32]) {
     }
 }
 
-// What a call is given in numbers: m, l and p, and how much is lent of the number tables, the byte tables, the input rows, the code rows
+// What a call is given in numbers: m, the choice of the transform, l and p, and how much is lent of the number tables, the byte tables, the input rows, the code rows
 // and the scores.
 pub(crate) struct Asked {
     pub m: u32,
+    pub arikan: bool,
     pub l: u32,
     pub p: u32,
     pub numbers: usize,
@@ -56,18 +57,19 @@ pub(crate) struct Asked {
 }
 
 fn read_asked(fields: &[u32]) -> Asked
-    requires { ⌜ length (now fields) ≡ 8 ⌝ }
+    requires { ⌜ length (now fields) ≡ 9 ⌝ }
     ensures { λ r. ⌜ (r .numbers ≤ 512) × (r .bytes ≤ 320) × (r .inputs ≤ 16) × (r .words ≤ 16) × (r .scores ≤ 1) ⌝ }
 {
     Asked {
         m: fields[0],
-        l: fields[1],
-        p: fields[2],
-        numbers: least(fields[3], 512),
-        bytes: least(fields[4], 320),
-        inputs: least(fields[5], 16),
-        words: least(fields[6], 16),
-        scores: least(fields[7], 1),
+        arikan: fields[1] != 0,
+        l: fields[2],
+        p: fields[3],
+        numbers: least(fields[4], 512),
+        bytes: least(fields[5], 320),
+        inputs: least(fields[6], 16),
+        words: least(fields[7], 16),
+        scores: least(fields[8], 1),
     }
 }
 
@@ -91,6 +93,7 @@ fn decode_asked(map: &[u8], pairs: &[u8], soft: &[i16], x: Asked)
     let scores: &mut [i32] = &mut row_scores[..e];
     let answer = decode(
         x.m,
+        x.arikan,
         map,
         pairs,
         x.l,
@@ -107,7 +110,7 @@ fn decode_asked(map: &[u8], pairs: &[u8], soft: &[i16], x: Asked)
 
 // The numbers, at most 2 bytes of map, 16 of pairs and 16 soft values.
 pub(crate) fn decode_line(line: &[u8], at: usize) {
-    let mut fields = [0u32; 8];
+    let mut fields = [0u32; 9];
     let mut map = [0u8; 2];
     let mut pairs = [0u8; 16];
     let mut soft = [0i16; 16];

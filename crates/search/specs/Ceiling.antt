@@ -8,7 +8,7 @@ use lib.ListN.{length, take, drop, length-take, length-drop, take-append-drop}
 use lib.Dec.{T}
 use lib.IntN.{ℤ, pos, +ℤ-idr}
 use lib.Signed.{leZ}
-use Rattle.spec.specs.Bits.{Bits}
+use Rattle.spec.specs.Bits.{Bits, nil}
 use Rattle.spec.specs.Code.{Code, size, frozen, payloadSize, inputFor, codeTransform, encoded}
 use Rattle.spec.specs.Score.{correlation, largest, score, taken}
 use Rattle.spec.specs.Decoder.{Row, children, scoreOf, live, rowOf, liveBy, droppedBy, ceilingBy, ceiling}
@@ -19,7 +19,8 @@ use Rattle.laws.specs.BitLaws.{bits-drop}
 use Rattle.laws.specs.Inputs.{length-input, bits-input}
 use Rattle.laws.specs.Cost.{magnitude}
 use Rattle.laws.specs.Layer.{cost-empty}
-use Rattle.laws.specs.ScoreCost.{scoreFrom, score-is}
+use Rattle.laws.specs.ScoreCost.{scoreFrom}
+use Rattle.laws.specs.CodeScore.{code-score}
 use Rattle.laws.specs.Taken.{length-taken}
 use Rattle.laws.specs.ListCost.{goes}
 use Rattle.laws.specs.DecodeCall.{AcceptedCall, accepted-faults, accepted-is, map-right, soft-long}
@@ -101,8 +102,8 @@ unfolding liveBy droppedBy ceilingBy
 ceiling-at-stop-0 c l soft x a =
     let y : List ℤ = taken soft in
     ceiling-is c l 0 soft x a
-    ∙ score-is (c .m) y [] (length-taken soft ∙ soft-long c l 0 soft (roomOf x) (accepted-faults c l 0 soft x a)) (omega arith)
-    ∙ ap (scoreFrom (magnitude y)) (cost-empty (c .m) y)
+    ∙ code-score c y nil (length-taken soft ∙ soft-long c l 0 soft (roomOf x) (accepted-faults c l 0 soft x a)) (omega arith)
+    ∙ ap (scoreFrom (magnitude y)) (cost-empty (c .arikan) (c .m) y)
     ∙ +ℤ-idr (pos (magnitude y))
 
 module _ (c : Code) (l : ℕ) (soft : List ℤ) (x : Lent) (a : AcceptedCall c l (size c) soft x) where

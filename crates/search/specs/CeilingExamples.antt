@@ -1,6 +1,7 @@
--- The ceiling by 01's sixth example and by two more codes with the same soft values, one of them with a pair: the first score alone is
+-- The ceiling by 01's sixth example and by three more codes with the same soft values, one with a pair and one with Arikan's transform: the first score alone is
 -- no bound on the words of a code, and a ceiling above the first score does not say that a longer list would gain.
 use mathlib.Core.Path.{_≡_, refl, ap}
+use mathlib.Core.Bool.{true, false}
 use mathlib.Core.List.{List, [], _∷_}
 use Prim.Native.Nat.{ℕ}
 use native.Mathlib.Omega.{arith}
@@ -9,7 +10,7 @@ use lib.Dec.{T}
 use lib.IntN.{ℤ, pos, negsuc, natAbs}
 use lib.Signed.{leZ}
 use Rattle.spec.specs.Bits.{nil, cons, bitsOf, unpacked}
-use Rattle.spec.specs.Transform.{transform}
+use Rattle.spec.specs.Transform.{transform, arikanTransform}
 use Rattle.spec.specs.Code.{Code, code, size, frozen, frozenBit, inputFor, encoded}
 use Rattle.spec.specs.Score.{largest, score}
 use Rattle.spec.specs.Decoder.{Row, children, liveBy, droppedBy, ceilingBy, rows}
@@ -24,7 +25,7 @@ use Rattle.search.specs.Ceiling.{ceilingOf, NoneAbove, BestRow, first-ro
 
 -- a code of four positions with 1 and 2 frozen
 unfoldable pub frozen12 : Code
-frozen12 = code 2 (6 ∷ []) []
+frozen12 = code 2 false (6 ∷ []) []
 
 -- what is lent for n = 4 and l = 4
 unfoldable pub lent4 : Lent
@@ -80,3 +81,14 @@ pub with-pair : found followed 1 ∷ found followed 2 ∷ [] ≡
     ∷ []
 unfolding followed lent4 y₂ bitsOf unpacked transform frozen frozenBit largest score children liveBy droppedBy ceilingBy rows first some pastEnd decodeRefusal decodeServed decodeOutcome
 with-pair = refl
+
+-- frozen 1, 2 and 3 with Arikan's transform: list size 2 gains there too
+unfoldable pub arikan123 : Code
+arikan123 = code 2 true (14 ∷ []) []
+
+pub with-arikan : found arikan123 1 ∷ found arikan123 2 ∷ [] ≡
+    (row (word4 1 0 0 0) (word4 1 0 0 0) (negsuc 1), pos 8)
+    ∷ (row (word4 0 0 0 0) (word4 0 0 0 0) (pos 0), pos 0)
+    ∷ []
+unfolding arikan123 lent4 y₂ bitsOf unpacked arikanTransform frozen frozenBit largest score children liveBy droppedBy ceilingBy rows first some pastEnd decodeRefusal decodeServed decodeOutcome
+with-arikan = refl

@@ -12,7 +12,7 @@ use Rattle.spec.specs.Score.{taken}
 use Rattle.spec.specs.Decoder.{Row, continued, children, scoreOf, live, rowOf, rows, ceiling}
 use Rattle.spec.specs.Refusals.{Room}
 use Rattle.spec.specs.Outcome.{Lent, roomOf, Decoding, concat, padded, decodedRows, decodeServed, decodeOutcome}
-use Rattle.laws.specs.Layer.{length-transform}
+use Rattle.laws.specs.CodeTransform.{length-transformed}
 use Rattle.laws.specs.ListCost.{goes, live-long, filled-long}
 use Rattle.laws.specs.ScoreOfChildren.{score-of-children}
 use Rattle.laws.specs.DecodeCall.{AcceptedCall, accepted-faults, accepted-is, list-in-range, stop-in-range}
@@ -80,7 +80,7 @@ module _ (c : Code) (l p : ℕ) (soft : List ℤ) (x : Lent) (a : AcceptedCall c
   row-of h e (leads {ws} q) =
       let u : List ℕ = h ++ replicate (size c - length h) 0 in
       let long : length u ≡ size c = filled-long (size c) h (omega (arith, e, stop-inside)) in
-      first-written (size c) (rowOf T c y l h) (map (rowOf T c y l) ws) (ceiling T c y l p) (roomOf x) long (length-transform (c .m) u long)
+      first-written (size c) (rowOf T c y l h) (map (rowOf T c y l) ws) (ceiling T c y l p) (roomOf x) long (length-transformed (c .arikan) (c .m) u long)
 
   pub first-of-call : FirstOfCall
   unfolding decodeServed rows

@@ -1,20 +1,21 @@
--- The first row by two of 01's examples and by a code with a pair, and that it is known no sooner: a stop position at the last frozen
+-- The first row by two of 01's examples, by a code with a pair and by one with Arikan's transform, and that it is known no sooner: a stop position at the last frozen
 -- position is not enough.
 use mathlib.Core.Path.{_≡_, refl, ap}
+use mathlib.Core.Bool.{false}
 use mathlib.Core.List.{List, [], _∷_}
 use Prim.Native.Nat.{ℕ, suc}
 use native.Mathlib.Omega.{arith}
 use lib.ListN.{replicate}
 use lib.IntN.{ℤ, pos, natAbs}
 use Rattle.spec.specs.Bits.{bitsOf, unpacked}
-use Rattle.spec.specs.Transform.{transform}
+use Rattle.spec.specs.Transform.{transform, arikanTransform}
 use Rattle.spec.specs.Code.{Code, code, size, frozen, frozenBit}
 use Rattle.spec.specs.Score.{largest, score}
 use Rattle.spec.specs.Decoder.{Row, children, liveBy, rows}
 use Rattle.spec.specs.Faults.{first, some}
 use Rattle.spec.specs.Refusals.{pastEnd}
 use Rattle.spec.specs.Outcome.{Lent, lent, decodeRefusal, decodeServed, decodeOutcome}
-use Rattle.spec.specs.Examples.{word4, y₁, y₂, frozen01, frozen123}
+use Rattle.spec.specs.Examples.{word4, y₁, y₂, frozen01, frozen123, arikan01}
 use Rattle.laws.specs.DecodeCall.{AcceptedCall}
 use Rattle.search.specs.FirstRow.{firstRow, knownAt, ClearFrom}
 
@@ -41,7 +42,7 @@ first-rows = refl
 
 -- a code of four positions with 2 frozen and the pair (2, 1): the bit at 2 is that at 1
 unfoldable pub followed : Code
-followed = code 2 (4 ∷ []) (2 ∷ 0 ∷ 1 ∷ 0 ∷ [])
+followed = code 2 false (4 ∷ []) (2 ∷ 0 ∷ 1 ∷ 0 ∷ [])
 
 -- At stop 3 the first three bits and the score are those at stop 4. At stop 2, where the bit that follows is not yet taken, they are not.
 pub first-rows-with-pair : rowAt followed y₂ 2 ∷ rowAt followed y₂ 3 ∷ rowAt followed y₂ 4 ∷ [] ≡
@@ -51,6 +52,14 @@ pub first-rows-with-pair : rowAt followed y₂ 2 ∷ rowAt followed y₂ 3 ∷ r
     ∷ []
 unfolding dirty y₂ followed bitsOf unpacked transform frozen frozenBit largest score children liveBy rows first some pastEnd decodeRefusal decodeServed decodeOutcome
 first-rows-with-pair = refl
+
+-- With Arikan's transform, frozen 0 and 1: at stop 2 the first two bits and the score are those at stop 4.
+pub first-rows-arikan : rowAt arikan01 y₂ 2 ∷ rowAt arikan01 y₂ 4 ∷ [] ≡
+    row (word4 0 0 0 0) (word4 0 0 0 0) (pos 6)
+    ∷ row (word4 0 0 1 1) (word4 0 1 0 1) (pos 6)
+    ∷ []
+unfolding dirty y₂ arikan01 bitsOf unpacked arikanTransform frozen frozenBit largest score children liveBy rows first some pastEnd decodeRefusal decodeServed decodeOutcome
+first-rows-arikan = refl
 
 -- the statement of `first-row-early` for a stop position one less: all behind it are clear, and it may be frozen itself
 abbrev pub Sooner : Type 0

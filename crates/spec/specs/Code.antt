@@ -1,20 +1,21 @@
--- A code, its frozen map, its pairs, and the words of it: 01, "Code and transform"; 02, wish 6.
+-- A code, its frozen map, its pairs, and the words of it: 01, "Code and transform"; 02, wishes 6 and 13.
 use mathlib.Core.Bool.{Bool, false, not, cond, _||_}
 use mathlib.Core.List.{List, [], _∷_, _++_}
 use Prim.Native.Nat.{ℕ, zero, suc, _+_, _*_, _/_, _^_}
 use lib.ListN.{length, take, getD}
 use lib.Dec.{eqb}
 use Rattle.spec.specs.Bits.{_⊕_, unpacked}
-use Rattle.spec.specs.Transform.{transform, inverse}
+use Rattle.spec.specs.Transform.{transformBy, inverseBy}
 
--- what 01 calls the code: m, and the frozen map and the pairs as bytes
+-- what 01 calls the code: m, whether the transform is Arikan's, and the frozen map and the pairs as bytes
 pub record Code : Type 0 where
   pub m : ℕ
+  pub arikan : Bool
   pub map : List ℕ
   pub pairs : List ℕ
 
-abbrev pub code : ℕ → List ℕ → List ℕ → Code
-code m map pairs = record { m = m; map = map; pairs = pairs }
+abbrev pub code : ℕ → Bool → List ℕ → List ℕ → Code
+code m arikan map pairs = record { m = m; arikan = arikan; map = map; pairs = pairs }
 
 -- n
 abbrev pub size : Code → ℕ
@@ -95,14 +96,14 @@ broken c u = brokenFrom c u 0 (frozen c)
 -- ---- words
 -- the transform that the code uses
 abbrev pub codeTransform : Code → List ℕ → List ℕ
-codeTransform c = transform (c .m)
+codeTransform c = transformBy (c .arikan) (c .m)
 
 -- the code word of a payload, the input of a word, and the payload of a word
 unfoldable pub encoded : Code → List ℕ → List ℕ
 encoded c payload = codeTransform c (inputFor c payload)
 
 unfoldable pub inputOf : Code → List ℕ → List ℕ
-inputOf c word = inverse (c .m) word
+inputOf c word = inverseBy (c .arikan) (c .m) word
 
 unfoldable pub extracted : Code → List ℕ → List ℕ
 extracted c word = gathered (frozen c) (inputOf c word)

@@ -1,11 +1,12 @@
 -- The starred examples of document 01, as one table: what the definitions give beside what 01 states. n = 4 unless said.
 use mathlib.Core.Path.{_≡_, refl}
+use mathlib.Core.Bool.{true, false}
 use mathlib.Core.List.{List, [], _∷_, map}
 use Prim.Native.Nat.{ℕ}
 use lib.ListN.{replicate}
 use lib.IntN.{ℤ, pos, negsuc}
 use Rattle.spec.specs.Bits.{bitsOf, unpacked}
-use Rattle.spec.specs.Transform.{transform, inverse}
+use Rattle.spec.specs.Transform.{transform, inverse, arikanTransform, arikanInverse}
 use Rattle.spec.specs.Code.{Code, code, frozen, frozenBit, inputFor, broken, codeTransform, encoded, inputOf, extracted}
 use Rattle.spec.specs.Score.{taken, largest, score}
 use Rattle.spec.specs.Decoder.{Row, children, liveBy, droppedBy, rows, ceilingBy, ceiling}
@@ -46,21 +47,32 @@ yₘ = replicate 4 (negsuc 2047)
 
 -- codes of four positions by their map: frozen 0 and 1; frozen 1, 2 and 3; nothing frozen
 unfoldable pub frozen01 : Code
-frozen01 = code 2 (3 ∷ []) []
+frozen01 = code 2 false (3 ∷ []) []
 
 unfoldable pub frozen123 : Code
-frozen123 = code 2 (14 ∷ []) []
+frozen123 = code 2 false (14 ∷ []) []
 
 unfoldable pub noneFrozen : Code
-noneFrozen = code 2 (0 ∷ []) []
+noneFrozen = code 2 false (0 ∷ []) []
 
 -- frozen 0, 2 and 3 with these pairs
 abbrev pub paired : List ℕ → Code
-paired pairs = code 2 (13 ∷ []) pairs
+paired pairs = code 2 false (13 ∷ []) pairs
 
 -- (2, 1), (3, 1) and (3, 2): the bit at 2 is that at 1, the bit at 3 the sum of both, which is 0
 unfoldable pub summed : Code
 summed = paired (2 ∷ 0 ∷ 1 ∷ 0 ∷ 3 ∷ 0 ∷ 1 ∷ 0 ∷ 3 ∷ 0 ∷ 2 ∷ 0 ∷ [])
+
+-- the codes of frozen 0 and 1, and of `summed`, with Arikan's transform
+unfoldable pub arikan01 : Code
+arikan01 = code 2 true (3 ∷ []) []
+
+unfoldable pub arikanSummed : Code
+arikanSummed = code 2 true (summed .map) (summed .pairs)
+
+-- the words whose input has a single 1
+unfoldable pub units : List (List ℕ)
+units = word4 1 0 0 0 ∷ word4 0 1 0 0 ∷ word4 0 0 1 0 ∷ word4 0 0 0 1 ∷ []
 
 abbrev pub shown : Row → List ℕ × ℤ
 shown r = (r .input, r .score)
@@ -78,7 +90,7 @@ ceilingAt c y l p = ceiling (codeTransform c) c y l p
 
 unfoldable pub table : List Example
 table =
-    (words (map (transform 2) (word4 1 0 0 0 ∷ word4 0 1 0 0 ∷ word4 0 0 1 0 ∷ word4 0 0 0 1 ∷ []))
+    (words (map (transform 2) units)
     is words (word4 1 0 0 0 ∷ word4 1 1 0 0 ∷ word4 0 1 1 0 ∷ word4 1 1 1 1 ∷ []))
     -- 01's table entries 64 and 128, by 02, wish 4, as words of length 8: the bits of each number, lowest first
     ∷ (words (map (λ (x : ℕ). transform 3 (bitsOf 8 x)) (64 ∷ 128 ∷ [])) is words (map (bitsOf 8) (105 ∷ 255 ∷ [])))
@@ -111,9 +123,20 @@ table =
     ∷ (words (map (λ (ps : List ℕ). encodeRefusal (paired ps) (1 ∷ []) 4 ∷ [])
     ((1 ∷ 0 ∷ 0 ∷ 0 ∷ []) ∷ (4 ∷ 0 ∷ 0 ∷ 0 ∷ []) ∷ (2 ∷ 0 ∷ 2 ∷ 0 ∷ []) ∷ (2 ∷ 0 ∷ 1 ∷ 0 ∷ 2 ∷ 0 ∷ 1 ∷ 0 ∷ []) ∷ (3 ∷ 0 ∷ 0 ∷ 0 ∷ 2 ∷ 0 ∷ 1 ∷ 0 ∷ []) ∷ (2 ∷ 0 ∷ 1 ∷ []) ∷ (3 ∷ 0 ∷ 2 ∷ 0 ∷ []) ∷ []))
     is words ((15 ∷ []) ∷ (15 ∷ []) ∷ (15 ∷ []) ∷ (15 ∷ []) ∷ (15 ∷ []) ∷ (15 ∷ []) ∷ (0 ∷ []) ∷ []))
-    ∷ (words ((encodeRefusal (code 2 (29 ∷ []) (2 ∷ [])) [] 4 ∷ []) ∷ (encodeRefusal (paired (2 ∷ [])) [] 4 ∷ []) ∷ []) is words ((3 ∷ []) ∷ (15 ∷ []) ∷ []))
+    ∷ (words ((encodeRefusal (code 2 false (29 ∷ []) (2 ∷ [])) [] 4 ∷ []) ∷ (encodeRefusal (paired (2 ∷ [])) [] 4 ∷ []) ∷ []) is words ((3 ∷ []) ∷ (15 ∷ []) ∷ []))
+    -- 02, wish 13: Arikan's transform of 0010 is 1010, and its inverse takes it back; encoder, extractor and paper decoder use the transform
+    -- that the code selects, also where bits follow others
+    ∷ (words (map (arikanTransform 2) units) is words (word4 1 0 0 0 ∷ word4 1 1 0 0 ∷ word4 1 0 1 0 ∷ word4 1 1 1 1 ∷ []))
+    ∷ (words (map (arikanInverse 2) (word4 1 0 0 0 ∷ word4 1 1 0 0 ∷ word4 1 0 1 0 ∷ word4 1 1 1 1 ∷ [])) is words units)
+    ∷ (words (arikanTransform 3 (bitsOf 8 16) ∷ arikanTransform 3 (bitsOf 8 2) ∷ []) is words (bitsOf 8 17 ∷ bitsOf 8 3 ∷ []))
+    ∷ (call (encodeOutcome arikan01 (1 ∷ 1 ∷ []) (word4 9 9 9 9)) is call (written 0 (word4 0 1 0 1)))
+    ∷ (call (extractOutcome arikan01 (word4 0 1 0 1) (9 ∷ 9 ∷ [])) is call (written 0 (1 ∷ 1 ∷ [])))
+    ∷ (words (map (λ (w : List ℕ). extractRefusal arikan01 w 2 ∷ []) (word4 1 0 0 1 ∷ word4 1 0 1 0 ∷ [])) is words ((12 ∷ []) ∷ (0 ∷ []) ∷ []))
+    ∷ (decoded (map shown (decode arikan01 y₁ 4 4))
+    is decoded ((word4 0 0 0 0, pos 11) ∷ (word4 0 0 1 1, pos 3) ∷ (word4 0 0 1 0, negsuc 2) ∷ (word4 0 0 0 1, negsuc 10) ∷ []))
+    ∷ (call (encodeOutcome arikanSummed (1 ∷ []) (word4 9 9 9 9)) is call (written 0 (word4 0 1 1 0)))
     ∷ []
 
 pub starred-examples : map (λ (e : Example). e .found) table ≡ map (λ (e : Example). e .stated) table
-unfolding table y₀ y₁ y₂ yₘ frozen01 frozen123 noneFrozen summed bitsOf unpacked transform inverse frozen frozenBit inputFor broken encoded inputOf extracted largest score children liveBy droppedBy rows ceilingBy first some pastEnd encodeRefusal encodeOutcome extractRefusal extractOutcome decodeRefusal decodeServed decodeOutcome
+unfolding table units y₀ y₁ y₂ yₘ frozen01 frozen123 noneFrozen summed arikan01 arikanSummed bitsOf unpacked transform inverse arikanTransform arikanInverse frozen frozenBit inputFor broken encoded inputOf extracted largest score children liveBy droppedBy rows ceilingBy first some pastEnd encodeRefusal encodeOutcome extractRefusal extractOutcome decodeRefusal decodeServed decodeOutcome
 starred-examples = refl

@@ -1,5 +1,6 @@
 -- What each call answers, and what every lent slice then holds, on refusal too. A refused call gives the number alone and leaves
 -- all lent memory as before.
+use mathlib.Core.Bool.{Bool}
 use mathlib.Core.List.{List, [], _∷_, _++_, map}
 use Prim.Native.Nat.{ℕ, _-_}
 use lib.ListN.{length, replicate}
@@ -9,7 +10,7 @@ use Rattle.spec.specs.Score.{taken}
 use Rattle.spec.specs.Decoder.{Row, rows, ceiling}
 use Rattle.spec.specs.Faults.{first, settled}
 use Rattle.spec.specs.Refusals.{Room, room, encodeFaults, extractFaults, decodeFaults}
-use Rattle.spec.specs.Record.{exponent, listSize, stopPosition, frameNumber, recordMap, recordSoft, pairCount, recordPairs, shapeFaults, fieldFaults}
+use Rattle.spec.specs.Record.{exponent, isArikan, listSize, stopPosition, frameNumber, recordMap, recordSoft, pairCount, recordPairs, shapeFaults, fieldFaults}
 
 -- a list at the front of a slice of n places, and z behind it
 abbrev pub padded : {A : Type 0} → A → ℕ → List A → List A
@@ -86,10 +87,10 @@ unfoldable pub decodeOutcome : Code → ℕ → ℕ → List ℤ → Lent → De
 decodeOutcome c l p soft x =
     settled (decodeRefusal c l p soft (roomOf x)) (λ k. decoding (refusedBy k) x) (decodeServed c l p soft (roomOf x))
 
--- ---- record reader: m, list size, stop position, frame number and the number of pairs, or the refusal number, and the three lent slices:
--- the frozen map, the soft values as they are taken, and the pairs
+-- ---- record reader: m, whether the transform is Arikan's, list size, stop position, frame number and the number of pairs, or the refusal
+-- number, and the three lent slices: the frozen map, the soft values as they are taken, and the pairs
 pub data Job : Type 0 where
-  job : ℕ → ℕ → ℕ → ℕ → ℕ → Job
+  job : ℕ → Bool → ℕ → ℕ → ℕ → ℕ → Job
   refusedJob : ℕ → Job
 
 pub record Reading : Type 0 where
@@ -106,7 +107,7 @@ readRefusal s maps softs pairs = first (shapeFaults s ++ fieldFaults s maps soft
 
 unfoldable pub readServed : List ℕ → ℕ → ℕ → ℕ → Reading
 readServed s maps softs pairs = reading
-    (job (exponent s) (listSize s) (stopPosition s) (frameNumber s) (pairCount s))
+    (job (exponent s) (isArikan s) (listSize s) (stopPosition s) (frameNumber s) (pairCount s))
     (padded 0 maps (recordMap s))
     (padded (pos 0) softs (taken (recordSoft s)))
     (padded 0 pairs (recordPairs s))

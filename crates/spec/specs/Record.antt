@@ -1,5 +1,5 @@
 -- The job record, as a function on its bytes: 01, "Job record". Low byte first throughout.
-use mathlib.Core.Bool.{not, cond}
+use mathlib.Core.Bool.{Bool, not, cond}
 use mathlib.Core.List.{List, [], _∷_, _++_}
 use Prim.Native.Nat.{ℕ, zero, suc, _+_, _*_, _/_, _%_, _^_}
 use lib.ListN.{length, take, drop, getD}
@@ -28,7 +28,8 @@ unfoldable pub softFrom : List ℕ → ℕ → ℕ → List ℤ
 softFrom s at zero = []
 softFrom s at (suc n) = signed16 (twoAt s at) ∷ softFrom s (at + 2) n
 
--- where each field begins, by byte 0, the map of fields: bit 0 list size, bit 1 stop position, bit 2 frame number, bit 3 pairs
+-- where each field begins, by byte 0, the map of fields: bit 0 list size, bit 1 stop position, bit 2 frame number, bit 3 pairs;
+-- bit 4 is no field but the choice of the transform
 abbrev pub stopAt : ℕ → ℕ
 stopAt fields = 2 + fields % 2
 
@@ -78,8 +79,12 @@ module _ (s : List ℕ) where
   abbrev pub recordPairs : List ℕ
   recordPairs = take (4 * pairCount) (drop pairsAt s)
 
+  -- bit 4 selects Arikan's transform: 02, wish 13
+  abbrev pub isArikan : Bool
+  isArikan = eqb (fields / 16 % 2) 1
+
   abbrev pub recordCode : Code
-  recordCode = code exponent recordMap recordPairs
+  recordCode = code exponent isArikan recordMap recordPairs
 
   abbrev pub softAt : ℕ
   softAt = pairsAt + 4 * pairCount
@@ -92,7 +97,7 @@ module _ (s : List ℕ) where
   abbrev pub shapeFaults : List Fault
   shapeFaults =
       fault 13 (eqb (length s) 0)
-      ∷ fault 14 (ltb 15 fields)
+      ∷ fault 14 (ltb 31 fields)
       ∷ fault 13 (eqb (length s) 1)
       ∷ fault 1 (outside 2 10 exponent)
       ∷ fault 13 (ltb (length s) pairsAt)

@@ -1,6 +1,9 @@
--- The transform of a convolutional polar code: 01, "Code and transform"; source document 002, (2) and (4).
-use mathlib.Core.List.{List, [], _∷_}
-use Prim.Native.Nat.{ℕ, zero, suc}
+-- The two transforms. That of a convolutional polar code: 01, "Code and transform"; source document 002, (2) and (4). Arikan's: 02, wish 13;
+-- source documents 000 and 004.
+use mathlib.Core.Bool.{Bool, cond}
+use mathlib.Core.List.{List, [], _∷_, _++_}
+use Prim.Native.Nat.{ℕ, zero, suc, _^_}
+use lib.ListN.{take, drop}
 use Rattle.spec.specs.Bits.{_⊕_, bitsOf, packed}
 
 -- The inputs a and b of the two transforms of half the length.
@@ -36,7 +39,7 @@ module _ {ℓ} {A : Type ℓ} where
   odds (x ∷ []) = []
   odds (x ∷ y ∷ r) = y ∷ odds r
 
--- the transform of a word of 2 ^ m bits
+-- the convolutional transform of a word of 2 ^ m bits
 unfoldable pub transform : ℕ → List ℕ → List ℕ
 transform zero u = u
 transform (suc m) u = interleave (transform m (inputA u)) (transform m (inputB u))
@@ -59,3 +62,33 @@ inverse (suc m) c = joined (inverse m (evens c)) (inverse m (odds c))
 -- 02, wish 4: the constant table of 16 entries, for length 4: bit i of the index is u_i, bit j of the entry is c_j
 unfoldable pub tableEntry : ℕ → ℕ
 tableEntry x = packed (transform 2 (bitsOf 4 x))
+
+-- ---- Arikan's transform
+-- the sum of two words, place by place
+abbrev pub added : List ℕ → List ℕ → List ℕ
+added [] w = []
+added (x ∷ v) [] = []
+added (x ∷ v) (y ∷ w) = (x ⊕ y) ∷ added v w
+
+-- of a word of 2 ^ m bits: its halves v and w give the transform of v + w, then that of w; length 1 is itself
+unfoldable pub arikanTransform : ℕ → List ℕ → List ℕ
+arikanTransform zero u = u
+arikanTransform (suc m) u =
+    let v : List ℕ = take (2 ^ m) u in
+    let w : List ℕ = drop (2 ^ m) u in
+    arikanTransform m (added v w) ++ arikanTransform m w
+
+-- the word whose transform this is: its halves are the transforms of v + w and of w
+unfoldable pub arikanInverse : ℕ → List ℕ → List ℕ
+arikanInverse zero c = c
+arikanInverse (suc m) c =
+    let a : List ℕ = arikanInverse m (take (2 ^ m) c) in
+    let w : List ℕ = arikanInverse m (drop (2 ^ m) c) in
+    added a w ++ w
+
+-- ---- the choice: Arikan's (arikan) or the convolutional one, and its inverse
+abbrev pub transformBy : Bool → ℕ → List ℕ → List ℕ
+transformBy arikan m = cond arikan (arikanTransform m) (transform m)
+
+abbrev pub inverseBy : Bool → ℕ → List ℕ → List ℕ
+inverseBy arikan m = cond arikan (arikanInverse m) (inverse m)

@@ -1,6 +1,7 @@
 -- The cut of slot numbers, and what it means for the prefixes that the ranks stand for.
 use mathlib.Core.Path.{_≡_, refl, sym, ap, _∙_}
 use mathlib.Core.Logic.{_⊎_, ⊎-elim}
+use mathlib.Core.Bool.{Bool}
 use mathlib.Core.List.{List}
 use Prim.Native.Nat.{ℕ, _+_, _*_, _<_, _≤_}
 use native.Mathlib.Nat.{zero-add, not-suc-le-zero, eq-or-lt-of-le, mod-eq-of-lt}
@@ -109,10 +110,10 @@ module _ (deep oldCount count : ℕ) (parents slots slots′ : List ℕ) (old : 
   odd-of : (d r : ℕ) → d ≤ deep → r < count → slotO slots′ d r ≡ slotO slots d (getD parents r 0)
   odd-of d r hd hr = a .odds d r hd hr ∙ ap (slotO slots d) (parent-is r hr)
 
-  pub cut-right : (k d l h : ℕ) (y : List ℤ) (ws : ℕ → List ℕ) (t b : List ℕ) → d ≤ deep
-      → AllRight k d l h oldCount y ws t b (slotW slots d) (slotO slots d)
-      → AllRight k d l h count y (λ r. ws (getD parents r 0)) t b (slotW slots′ d) (slotO slots′ d)
-  cut-right k d l h y ws t b hd ready r hr
+  pub cut-right : (arikan : Bool) (k d l h : ℕ) (y : List ℤ) (ws : ℕ → List ℕ) (t b : List ℕ) → d ≤ deep
+      → AllRight arikan k d l h oldCount y ws t b (slotW slots d) (slotO slots d)
+      → AllRight arikan k d l h count y (λ r. ws (getD parents r 0)) t b (slotW slots′ d) (slotO slots′ d)
+  cut-right arikan k d l h y ws t b hd ready r hr
       = rw (window-of d r hd hr, odd-of d r hd hr) (ready (getD parents r 0) (known r hr))
 
   pub cut-named : (l : ℕ) → deep ≤ 8 → count ≤ 32 → 800 ≤ length slots → Named deep l oldCount slots

@@ -65,18 +65,20 @@ two-bits : (a b : ℕ) → a < 2 → b < 2 → ((a ⊕ b) % 2 + b % 2) % 2 ≡ a
 two-bits a b ha hb = rw (mod-eq-of-lt (⊕-lt a b ha), mod-eq-of-lt hb)
     (sym (⊕-mod (a ⊕ b) b (⊕-lt a b ha) hb) ∙ ⊕-twice a b ha)
 
--- after one bit
-pub ground-1 : (y : List ℤ) (u₀ s o : ℕ) (t : List ℕ) (p x : ℕ) → u₀ < 2
-    → ((k : ℕ) → k < 16 → getD t (p + k) 0 ≡ F y k)
-    → bottomF false t p (decidedOf false s o u₀) x ≡ at4 (W4 2 y (u₀ ∷ [])) x
-ground-1 y u₀ s o t p x h c = rw (mod-eq-of-lt h) (c (u₀ + 2 * (x % 8)) (omega arith) ∙ sym (base-1-packed y u₀ x h))
+-- ---- what depends on the layer rule
+module _ (arikan : Bool) where
+  -- after one bit
+  pub ground-1 : (y : List ℤ) (u₀ s o : ℕ) (t : List ℕ) (p x : ℕ) → u₀ < 2
+      → ((k : ℕ) → k < 16 → getD t (p + k) 0 ≡ F arikan y k)
+      → bottomF false t p (decidedOf false s o u₀) x ≡ at4 (W4 arikan 2 y (u₀ ∷ [])) x
+  ground-1 y u₀ s o t p x h c = rw (mod-eq-of-lt h) (c (u₀ + 2 * (x % 8)) (omega arith) ∙ sym (base-1-packed arikan y u₀ x h))
 
--- after three
-pub ground-3 : (y : List ℤ) (u₀ u₁ u₂ : ℕ) (t : List ℕ) (p x : ℕ) → u₀ < 2 → u₁ < 2 → u₂ < 2
-    → ((k : ℕ) → k < 16 → getD t (p + k) 0 ≡ F y k)
-    → bottomF true t p (decidedOf true (u₀ ⊕ u₁) u₁ u₂) x ≡ at4 (W4 2 y (u₀ ∷ u₁ ∷ u₂ ∷ [])) x
-ground-3 y u₀ u₁ u₂ t p x h₀ h₁ h₂ c =
-    let e : decidedOf true (u₀ ⊕ u₁) u₁ u₂ ≡ u₀ + 2 * u₁ + 4 * u₂
-    = omega (arith, two-bits u₀ u₁ h₀ h₁, mod-eq-of-lt h₁, mod-eq-of-lt h₂) in
-    ap (λ (k : ℕ). getD t (p + (k + 8 * (x % 2))) 0) e ∙ c (u₀ + 2 * u₁ + 4 * u₂ + 8 * (x % 2)) (omega arith)
-    ∙ sym (base-3-packed y u₀ u₁ u₂ x h₀ h₁ h₂)
+  -- after three
+  pub ground-3 : (y : List ℤ) (u₀ u₁ u₂ : ℕ) (t : List ℕ) (p x : ℕ) → u₀ < 2 → u₁ < 2 → u₂ < 2
+      → ((k : ℕ) → k < 16 → getD t (p + k) 0 ≡ F arikan y k)
+      → bottomF true t p (decidedOf true (u₀ ⊕ u₁) u₁ u₂) x ≡ at4 (W4 arikan 2 y (u₀ ∷ u₁ ∷ u₂ ∷ [])) x
+  ground-3 y u₀ u₁ u₂ t p x h₀ h₁ h₂ c =
+      let e : decidedOf true (u₀ ⊕ u₁) u₁ u₂ ≡ u₀ + 2 * u₁ + 4 * u₂
+      = omega (arith, two-bits u₀ u₁ h₀ h₁, mod-eq-of-lt h₁, mod-eq-of-lt h₂) in
+      ap (λ (k : ℕ). getD t (p + (k + 8 * (x % 2))) 0) e ∙ c (u₀ + 2 * u₁ + 4 * u₂ + 8 * (x % 2)) (omega arith)
+      ∙ sym (base-3-packed arikan y u₀ u₁ u₂ x h₀ h₁ h₂)

@@ -54,3 +54,17 @@ rows-flat F o count t t′ a = record {
   below = a .below;
   above = a .above;
 }
+
+-- rows of sixteen written anew, each from its own words
+pub rows-again : (F G : ℕ → ℕ → ℕ) (from : ℕ → ℕ) (d count : ℕ) (t t′ t″ : List ℕ)
+    → ((x : ℕ) → x < 16 → from x < 16) → ((i x : ℕ) → x < 16 → F i (from x) ≡ G i x)
+    → WroteRows F (16 * d) 16 count t t′ → WroteRows (λ i x. getD t′ (16 * (d + i) + from x) 0) (16 * d) 16 count t′ t″
+    → WroteRows G (16 * d) 16 count t t″
+rows-again F G from d count t t′ t″ low e a b = record {
+  same = b .same ∙ a .same;
+  inside = λ i x hi hx.
+      let z : 16 * (d + i) + from x ≡ 16 * d + 16 * i + from x = omega arith in
+      b .inside i x hi hx ∙ ap (λ (k : ℕ). getD t′ k 0) z ∙ a .inside i (from x) hi (low x hx) ∙ e i x hx;
+  below = λ j h. b .below j h ∙ a .below j h;
+  above = λ j h. b .above j h ∙ a .above j h;
+}

@@ -48,9 +48,9 @@ rows-apart : (F : ℕ → ℕ → ℕ) (o step count p k n : ℕ) (t t′ : List
 rows-apart F o step count p k n t t′ a l w i h
     = ⊎-elim (λ g. w .below (p + i) (omega arith)) (λ g. w .above (p + i) (omega arith)) a
 
-pub mix-same : (b b′ : List ℕ) (p q i : ℕ) → getD b′ (p + i) 0 ≡ getD b (p + i) 0
-    → getD b′ (q + i) 0 ≡ getD b (q + i) 0 → mix b′ p q i ≡ mix b p q i
-mix-same b b′ p q i e f = rw (e, f)
+pub mix-same : (arikan : Bool) (b b′ : List ℕ) (p q i : ℕ) → getD b′ (p + i) 0 ≡ getD b (p + i) 0
+    → getD b′ (q + i) 0 ≡ getD b (q + i) 0 → mix arikan b′ p q i ≡ mix arikan b p q i
+mix-same arikan b b′ p q i e f = rw (e, f)
 
 -- two halves
 pub cond-ltb : (m w x y z : ℕ) → (m < w → x ≡ z) → (w ≤ m → y ≡ z) → cond (ltb m w) x y ≡ z
@@ -59,34 +59,6 @@ cond-ltb m w x y z p q = go (ltb m w) refl
     go : (c : Bool) → ltb m w ≡ c → cond c x y ≡ z
     go true e = p (ltb→lt m w (subst T (sym e) tt))
     go false e = q (nltb→le m w (subst (λ (k : Bool). T (not k)) (sym e) tt))
-
-pub pair-wrote : (b b₁ b₂ : List ℕ) (p q e to w : ℕ) → Apart q w to (2 * w) → Apart e w to (2 * w)
-    → Wrote (mix b p e) to w b b₁ → Wrote (mix b₁ q e) (to + w) w b₁ b₂ → Wrote (pairF b p q e w) to (2 * w) b b₂
-pair-wrote b b₁ b₂ p q e to w aq ae x y = record {
-  same = y .same ∙ x .same;
-  inside = λ m h. sym (cond-ltb m w (mix b p e m) (mix b q e (m - w)) (getD b₂ (to + m) 0)
-      (λ l. sym (y .below (to + m) (omega arith) ∙ x .inside m l))
-      (λ l.
-      let z : to + m ≡ to + w + (m - w) = omega arith in
-      sym (ap (λ (k : ℕ). getD b₂ k 0) z ∙ y .inside (m - w) (omega arith)
-      ∙ mix-same b b₁ q e (m - w)
-      (wrote-apart (mix b p e) to (2 * w) w q w b b₁ aq (omega arith) x (m - w) (omega arith))
-      (wrote-apart (mix b p e) to (2 * w) w e w b b₁ ae (omega arith) x (m - w) (omega arith)))));
-  below = λ j h. y .below j (omega arith) ∙ x .below j h;
-  above = λ j h. y .above j (omega arith) ∙ x .above j (omega arith);
-}
-
--- what an answer of pairF looks at
-pair-same : (b b′ : List ℕ) (p q e w : ℕ) → ((i : ℕ) → i < w → getD b′ (p + i) 0 ≡ getD b (p + i) 0)
-    → ((i : ℕ) → i < w → getD b′ (q + i) 0 ≡ getD b (q + i) 0)
-    → ((i : ℕ) → i < w → getD b′ (e + i) 0 ≡ getD b (e + i) 0) → (m : ℕ) → m < 2 * w
-    → pairF b′ p q e w m ≡ pairF b p q e w m
-pair-same b b′ p q e w hp hq he m h = cond-ltb m w (mix b′ p e m) (mix b′ q e (m - w)) (pairF b p q e w m)
-    (λ l. mix-same b b′ p e m (hp m l) (he m l)
-    ∙ sym (cond-ltb m w (mix b p e m) (mix b q e (m - w)) (mix b p e m) (λ _. refl) (λ g. absurd (omega arith))))
-    (λ l. mix-same b b′ q e (m - w) (hq (m - w) (omega arith)) (he (m - w) (omega arith))
-    ∙ sym (cond-ltb m w (mix b p e m) (mix b q e (m - w)) (mix b q e (m - w)) (λ g. absurd (omega arith))
-    (λ _. refl)))
 
 -- ---- where the passes read and write
 module _ (w l h f r o : ℕ) (low : slotStart (2 * w) l l ≤ h) (hr : r < l) (ho : o < l)
@@ -134,28 +106,6 @@ module _ (w l h f r o : ℕ) (low : slotStart (2 * w) l l ≤ h) (hr : r < l) (h
         even-apart (f + slotStart (2 * w) l r) (2 * w) g₀ g₁,
       )
 
--- one path more: what it reads, no path writes
-pub push-more : (w l h f : ℕ) (b b′ b″ : List ℕ) (O : ℕ → ℕ) (r : ℕ) → slotStart (2 * w) l l ≤ h → r < l → O r < l
-    → (f ≡ 0) ⊎ (f ≡ 2 * h)
-    → WroteRows (λ z. pushF w l h b (O z) z) (f + slotStart (2 * w) l 0) (2 * w) r b b′
-    → Wrote (pushF w l h b′ (O r) r) (f + slotStart (2 * w) l r) (2 * w) b′ b″
-    → WroteRows (λ z. pushF w l h b (O z) z) (f + slotStart (2 * w) l 0) (2 * w) (r + 1) b b″
-push-more w l h f b b′ b″ O r low hr ho hf a p =
-    let F : ℕ → ℕ → ℕ = λ z. pushF w l h b (O z) z in
-    let at : ℕ = f + slotStart (2 * w) l 0 in
-    let e : f + slotStart (2 * w) l r ≡ at + 2 * w * r = omega (arith, slot-at (2 * w) l r) in
-    let g₁ : at + 2 * w * r ≤ f + slotStart (2 * w) l r + 2 * w = omega arith in
-    let g₀ : at ≤ at = omega arith in
-    let g₂ : 2 * w * r ≤ 2 * w * r = omega arith in
-    rows-more F at (2 * w) b (pushF w l h b′ (O r) r) r (f + slotStart (2 * w) l r) b′ b″ e a p
-    (pair-same b b′ (h + slotStart w l (O r)) (2 * h + slotStart w l (O r)) (slotStart w l r) w
-    (rows-apart F at (2 * w) r (h + slotStart w l (O r)) w (2 * w * r) b b′
-    (sum-apart w l h f r (O r) low hr ho hf at (2 * w * r) g₀ g₁) g₂ a)
-    (rows-apart F at (2 * w) r (2 * h + slotStart w l (O r)) w (2 * w * r) b b′
-    (odd-apart w l h f r (O r) low hr ho hf at (2 * w * r) g₀ g₁) g₂ a)
-    (rows-apart F at (2 * w) r (slotStart w l r) w (2 * w * r) b b′
-    (even-apart w l h f r (O r) low hr ho hf at (2 * w * r) g₀ g₁) g₂ a))
-
 pub sum-asks : (w l h r s len from at : ℕ) → slotStart w l l ≤ h → 3 * h ≤ len → r < l → s < l
     → from ≡ slotStart w l s → at ≡ slotStart w l r
     → (from + w ≤ len) × (2 * h + at + w ≤ len) × (h + at + w ≤ len) × Apart from w (h + at) w
@@ -177,7 +127,7 @@ sum-more w l h b b′ b″ S r low hr hs a p =
     let g₂ : slotStart w l r + w ≤ slotStart w l l = slot-apart w l r l hr in
     let g₃ : w * r ≤ w * r = omega arith in
     rows-more F at w b (sumF w l h b′ (S r) r) r (h + slotStart w l r) b′ b″ e a p
-    (λ m hm. mix-same b b′ (slotStart w l (S r)) (2 * h + slotStart w l r) m
+    (λ m hm. mix-same false b b′ (slotStart w l (S r)) (2 * h + slotStart w l r) m
     (rows-apart F at w r (slotStart w l (S r)) w (w * r) b b′ (inl (omega arith)) g₃ a m hm)
     (rows-apart F at w r (2 * h + slotStart w l r) w (w * r) b b′ (inr (omega arith)) g₃ a m hm))
 
@@ -190,13 +140,65 @@ rest-apart p w to a = ⊎-elim (λ g. inl (omega arith)) (λ g. inr (omega arith
 pub fit-b : (w l h : ℕ) (b b′ : List ℕ) → length b′ ≡ length b → FitBits w l h b → FitBits w l h b′
 fit-b w l h b b′ e f = record { wide = f .wide; long = f .long; low = f .low; bytes = rw e (f .bytes) }
 
-pub push-wrote : (w l h f : ℕ) (b : List ℕ) (o r from e to : ℕ) (b′ : List ℕ) → from ≡ slotStart w l o
-    → e ≡ slotStart w l r → to ≡ slotStart (2 * w) l r
-    → Wrote (pairF b (h + from) (2 * h + from) e w) (f + to) (2 * w) b b′
-    → Wrote (pushF w l h b o r) (f + slotStart (2 * w) l r) (2 * w) b b′
-push-wrote w l h f b o r from e to b′ e₁ e₂ e₃ p = rw (e₁, e₂, e₃) at p
-
 pub sum-wrote : (w l h : ℕ) (b : List ℕ) (s r from at : ℕ) (b′ : List ℕ) → from ≡ slotStart w l s
     → at ≡ slotStart w l r
-    → Wrote (mix b from (2 * h + at)) (h + at) w b b′ → Wrote (sumF w l h b s r) (h + slotStart w l r) w b b′
+    → Wrote (mix false b from (2 * h + at)) (h + at) w b b′ → Wrote (sumF w l h b s r) (h + slotStart w l r) w b b′
 sum-wrote w l h b s r from at b′ e₁ e₂ p = rw (e₁, e₂) at p
+
+-- ---- what depends on the layer rule
+module _ (arikan : Bool) where
+  pub pair-wrote : (b b₁ b₂ : List ℕ) (p q e to w : ℕ) → Apart q w to (2 * w) → Apart e w to (2 * w)
+      → Wrote (mix arikan b p e) to w b b₁ → Wrote (mix arikan b₁ q e) (to + w) w b₁ b₂ → Wrote (pairF arikan b p q e w) to (2 * w) b b₂
+  pair-wrote b b₁ b₂ p q e to w aq ae x y = record {
+    same = y .same ∙ x .same;
+    inside = λ m h. sym (cond-ltb m w (mix arikan b p e m) (mix arikan b q e (m - w)) (getD b₂ (to + m) 0)
+        (λ l. sym (y .below (to + m) (omega arith) ∙ x .inside m l))
+        (λ l.
+        let z : to + m ≡ to + w + (m - w) = omega arith in
+        sym (ap (λ (k : ℕ). getD b₂ k 0) z ∙ y .inside (m - w) (omega arith)
+        ∙ mix-same arikan b b₁ q e (m - w)
+        (wrote-apart (mix arikan b p e) to (2 * w) w q w b b₁ aq (omega arith) x (m - w) (omega arith))
+        (wrote-apart (mix arikan b p e) to (2 * w) w e w b b₁ ae (omega arith) x (m - w) (omega arith)))));
+    below = λ j h. y .below j (omega arith) ∙ x .below j h;
+    above = λ j h. y .above j (omega arith) ∙ x .above j (omega arith);
+  }
+
+  -- what an answer of pairF looks at
+  pair-same : (b b′ : List ℕ) (p q e w : ℕ) → ((i : ℕ) → i < w → getD b′ (p + i) 0 ≡ getD b (p + i) 0)
+      → ((i : ℕ) → i < w → getD b′ (q + i) 0 ≡ getD b (q + i) 0)
+      → ((i : ℕ) → i < w → getD b′ (e + i) 0 ≡ getD b (e + i) 0) → (m : ℕ) → m < 2 * w
+      → pairF arikan b′ p q e w m ≡ pairF arikan b p q e w m
+  pair-same b b′ p q e w hp hq he m h = cond-ltb m w (mix arikan b′ p e m) (mix arikan b′ q e (m - w)) (pairF arikan b p q e w m)
+      (λ l. mix-same arikan b b′ p e m (hp m l) (he m l)
+      ∙ sym (cond-ltb m w (mix arikan b p e m) (mix arikan b q e (m - w)) (mix arikan b p e m) (λ _. refl) (λ g. absurd (omega arith))))
+      (λ l. mix-same arikan b b′ q e (m - w) (hq (m - w) (omega arith)) (he (m - w) (omega arith))
+      ∙ sym (cond-ltb m w (mix arikan b p e m) (mix arikan b q e (m - w)) (mix arikan b q e (m - w)) (λ g. absurd (omega arith))
+      (λ _. refl)))
+
+  -- one path more: what it reads, no path writes
+  pub push-more : (w l h f : ℕ) (b b′ b″ : List ℕ) (O : ℕ → ℕ) (r : ℕ) → slotStart (2 * w) l l ≤ h → r < l → O r < l
+      → (f ≡ 0) ⊎ (f ≡ 2 * h)
+      → WroteRows (λ z. pushF arikan w l h b (O z) z) (f + slotStart (2 * w) l 0) (2 * w) r b b′
+      → Wrote (pushF arikan w l h b′ (O r) r) (f + slotStart (2 * w) l r) (2 * w) b′ b″
+      → WroteRows (λ z. pushF arikan w l h b (O z) z) (f + slotStart (2 * w) l 0) (2 * w) (r + 1) b b″
+  push-more w l h f b b′ b″ O r low hr ho hf a p =
+      let F : ℕ → ℕ → ℕ = λ z. pushF arikan w l h b (O z) z in
+      let at : ℕ = f + slotStart (2 * w) l 0 in
+      let e : f + slotStart (2 * w) l r ≡ at + 2 * w * r = omega (arith, slot-at (2 * w) l r) in
+      let g₁ : at + 2 * w * r ≤ f + slotStart (2 * w) l r + 2 * w = omega arith in
+      let g₀ : at ≤ at = omega arith in
+      let g₂ : 2 * w * r ≤ 2 * w * r = omega arith in
+      rows-more F at (2 * w) b (pushF arikan w l h b′ (O r) r) r (f + slotStart (2 * w) l r) b′ b″ e a p
+      (pair-same b b′ (h + slotStart w l (O r)) (2 * h + slotStart w l (O r)) (slotStart w l r) w
+      (rows-apart F at (2 * w) r (h + slotStart w l (O r)) w (2 * w * r) b b′
+      (sum-apart w l h f r (O r) low hr ho hf at (2 * w * r) g₀ g₁) g₂ a)
+      (rows-apart F at (2 * w) r (2 * h + slotStart w l (O r)) w (2 * w * r) b b′
+      (odd-apart w l h f r (O r) low hr ho hf at (2 * w * r) g₀ g₁) g₂ a)
+      (rows-apart F at (2 * w) r (slotStart w l r) w (2 * w * r) b b′
+      (even-apart w l h f r (O r) low hr ho hf at (2 * w * r) g₀ g₁) g₂ a))
+
+  pub push-wrote : (w l h f : ℕ) (b : List ℕ) (o r from e to : ℕ) (b′ : List ℕ) → from ≡ slotStart w l o
+      → e ≡ slotStart w l r → to ≡ slotStart (2 * w) l r
+      → Wrote (pairF arikan b (h + from) (2 * h + from) e w) (f + to) (2 * w) b b′
+      → Wrote (pushF arikan w l h b o r) (f + slotStart (2 * w) l r) (2 * w) b b′
+  push-wrote w l h f b o r from e to b′ e₁ e₂ e₃ p = rw (e₁, e₂, e₃) at p

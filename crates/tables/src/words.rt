@@ -3,7 +3,8 @@ ghost use mathlib.Core.Path.{_≡_};
 ghost use Prim.Native.Nat.{_+_, _*_, _%_, _<_, _≤_};
 ghost use lib.ListN.{length, getD};
 ghost use Rattle.windows.specs.Op.{Wrote};
-ghost use Rattle.tables.specs.Tab.{slotStart, flat16, lifted, rowF, WroteRows, FitWindows, Slots, Placed};
+ghost use Rattle.tables.specs.Tab.{slotStart, flat16, plainF, finishF, rowF, WroteRows, FitWindows, Slots, Placed};
+use windows::kernel::finish;
 use windows::kernel::node;
 
 // Where slot s of a layer of w nodes begins, in nodes.
@@ -22,8 +23,8 @@ pub(crate) fn place_of(w: usize, l: usize, s: u8) -> usize
     place(w, l, s as usize)
 }
 
-// The windows of w nodes at dst, from those of their children at src, with the children's odd bits
-// at `odds` and the nodes' even bits at `evens`.
+// What the convolutional operator makes of the children of w nodes, whose windows are at src and their
+// odd bits at `odds`, with the nodes' even bits at `evens`, to dst.
 fn pass(
     t: &mut [u32],
     b: &[u8],
@@ -32,12 +33,11 @@ fn pass(
     w: usize,
     odds: usize,
     evens: usize,
-    left: usize,
     even: bool,
 )
     requires { ⌜ (16 * (src + 2 * w) ≤ length (now t)) × (dst + w ≤ src) × (odds + 2 * w ≤ length (now b))
-        × (evens + w ≤ length (now b)) × (left % 2 ≡ 1) ⌝ }
-    ensures { λ _. ⌜ WroteRows (lifted even left src w odds evens (now (b .entry)) (now (t .entry)))
+        × (evens + w ≤ length (now b)) ⌝ }
+    ensures { λ _. ⌜ WroteRows (plainF even src w odds evens (now (b .entry)) (now (t .entry)))
         (16 * dst) 16 w (now (t .entry)) (now (t .exit)) ⌝ }
 {
     let mut i = 0;
@@ -50,9 +50,25 @@ fn pass(
             b[odds + i],
             b[odds + w + i],
             b[evens + i],
-            left,
             even,
         );
+        i += 1;
+    }
+}
+
+// The windows of these nodes, with `left` places left of each word. Where the word has room the
+// convolutional ones are there already.
+fn finish_pass(t: &mut [u32], dst: usize, w: usize, left: usize, arikan: bool)
+    requires { ⌜ 16 * (dst + w) ≤ length (now t) ⌝ }
+    ensures { λ _. ⌜ WroteRows (finishF arikan left dst (now (t .entry))) (16 * dst) 16 w
+        (now (t .entry)) (now (t .exit)) ⌝ }
+{
+    if !arikan && 3 < left {
+        return;
+    }
+    let mut i = 0;
+    while i < w {
+        finish(t, 16 * (dst + i), left, arikan);
         i += 1;
     }
 }
@@ -69,16 +85,18 @@ fn row(
     o: u8,
     left: usize,
     even: bool,
+    arikan: bool,
 )
     requires { ⌜ FitWindows w l h (now t) (now b) × (r < l) × (s < l) × (o < l) × (left % 2 ≡ 1) ⌝ }
-    ensures { λ _. ⌜ Wrote (flat16 (rowF even left w l h (now (b .entry)) (now (t .entry)) s o r))
+    ensures { λ _. ⌜ Wrote (flat16 (rowF arikan even left w l h (now (b .entry)) (now (t .entry)) s o r))
         (16 * slotStart w l r) (16 * w) (now (t .entry)) (now (t .exit)) ⌝ }
 {
     let v = 2 * w;
     let src = place_of(v, l, s);
     let odds = 2 * h + place_of(v, l, o);
     let dst = place(w, l, r);
-    pass(t, b, src, dst, w, odds, dst, left, even);
+    pass(t, b, src, dst, w, odds, dst, even);
+    finish_pass(t, dst, w, left, arikan);
 }
 
 // The windows of every live path, path r into slot r. The slot numbers of the layer below are at ws
@@ -95,16 +113,29 @@ pub(crate) fn layer(
     h: usize,
     left: usize,
     even: bool,
+    arikan: bool,
 )
     requires { ⌜ FitWindows w l h (now t) (now b) × Slots l count ws (now slots) × Slots l count os (now slots)
         × (count ≤ l) × (left % 2 ≡ 1) ⌝ }
-    ensures { λ _. ⌜ WroteRows (λ r. flat16 (rowF even left w l h (now (b .entry)) (now (t .entry))
+    ensures { λ _. ⌜ WroteRows (λ r. flat16 (rowF arikan even left w l h (now (b .entry)) (now (t .entry))
         (getD (now (slots .entry)) (ws + r) 0) (getD (now (slots .entry)) (os + r) 0) r))
         (16 * slotStart w l 0) (16 * w) count (now (t .entry)) (now (t .exit)) ⌝ }
 {
     let mut r = 0;
     while r < count {
-        row(t, b, w, l, h, r, slots[ws + r], slots[os + r], left, even);
+        row(
+            t,
+            b,
+            w,
+            l,
+            h,
+            r,
+            slots[ws + r],
+            slots[os + r],
+            left,
+            even,
+            arikan,
+        );
         r += 1;
     }
 }

@@ -7,9 +7,7 @@ use native.Mathlib.Omega.{arith}
 use lib.ListN.{length}
 use Rattle.spec.specs.Bits.{Bits}
 use Rattle.spec.specs.Transform.{inputA, inputB, interleave, evens, odds, joined, transform, inverse}
-use Rattle.laws.specs.BitLaws.{bits-inputA, bits-inputB}
-use Rattle.laws.specs.Layer.{length-transform}
-use Rattle.laws.specs.Inverse.{bits-transform, bits-inverse, length-inputA-pow, length-inputB-pow, length-inverse}
+use Rattle.laws.specs.Inverse.{bits-inputA, bits-inputB, length-transform, bits-transform, bits-inverse, length-inputA-pow, length-inputB-pow, length-inverse}
 use Rattle.transform.specs.Strided.{Strided, picked, placed, splitAt, joinAt, transformAt, inverseAt}
 use Rattle.transform.proofs.Strides.{length-picked, length-placed, bits-picked, bits-placed, placed-again, picked-placed, picked-second, picked-first, crossed, evens-picked, odds-picked, placed-halves}
 

@@ -1,3 +1,4 @@
+mod AddedHalves
 mod EveryEntry
 mod Halving
 mod Layers

@@ -1,15 +1,14 @@
 -- The word that is a whole slice: it lies there at the stride 1. Assumes nothing.
 use mathlib.Core.Path.{_≡_, sym, ap, _∙_}
 use mathlib.Core.List.{List}
-use Prim.Native.Nat.{ℕ, _/_, _^_}
+use Prim.Native.Nat.{ℕ, _*_, _/_, _^_}
 use native.Mathlib.Omega.{arith}
 use lib.ListN.{length}
 use lib.Pow.{pow-mono}
 use Rattle.spec.specs.Transform.{transform, inverse}
-use Rattle.laws.specs.Layer.{length-transform}
-use Rattle.laws.specs.Inverse.{length-inverse}
+use Rattle.laws.specs.Inverse.{length-transform, length-inverse}
 use Rattle.transform.specs.Strided.{Strided, Halved, picked, placed, transformAt, inverseAt}
-use Rattle.transform.specs.Word.{Word}
+use Rattle.transform.specs.Word.{Word, TwoHalves}
 use Rattle.transform.proofs.Layers.{doubled}
 use Rattle.transform.proofs.Strides.{picked-whole, placed-whole}
 
@@ -23,8 +22,14 @@ module _ {m : ℕ} {s : List ℕ} (w : Word m s) where
     bits = w .bits;
   }
 
+  halves : 2 * (length s / 2) ≡ 2 ^ m
+  halves = omega (arith, w .long, doubled m (omega (arith, w .least)))
+
+  pub whole-twice : TwoHalves m (length s / 2) s
+  whole-twice = record { word = w; half = omega (arith, halves) }
+
   pub whole-halved : Halved m (length s / 2) 0 1 s
-  whole-halved = record { least = w .least; half = omega (arith, w .long, doubled m (omega (arith, w .least))); lies = whole }
+  whole-halved = record { least = w .least; half = halves; lies = whole }
 
   whole-is : (f : List ℕ → List ℕ) {t : List ℕ} → length (f s) ≡ 2 ^ m → t ≡ placed 0 1 (f (picked 0 1 (2 ^ m) s)) s → t ≡ f s
   whole-is f l q =

@@ -8,15 +8,15 @@ use native.Mathlib.Omega.{arith}
 use lib.ListN.{getD}
 use lib.IntN.{ℤ}
 use Rattle.spec.specs.Bits.{_⊕_}
-use Rattle.spec.specs.Transform.{transform}
+use Rattle.laws.specs.Places.{carry, byPlaces}
 use Rattle.laws.specs.Cost.{bitCost}
 use Rattle.laws.specs.Layer.{least}
-use Rattle.laws.specs.Windows.{mask4, at4, F, F4}
+use Rattle.laws.specs.Windows.{at4, F, F4}
 use Rattle.laws.specs.Nodes.{odd}
 use Rattle.laws.specs.Cells.{read3, peek}
 use Rattle.windows.specs.declared.window.Sixteen.{Sixteen}
 use Rattle.windows.specs.Op.{wrapOf, op4w, three, oddRead, evenRead, readB, entry, eight, sixteen, listed}
-use Rattle.windows.specs.Op.{flipped, inside, masked, kindB, tabAt, lift32, Wrote, bottomF}
+use Rattle.windows.specs.Op.{untiedOf, rebasedOf, flipped, kindB, tabAt, plain32, Wrote, bottomF}
 use Rattle.windows.specs.Start.{pairCosts, wordCosts, freeLast, woven, first32}
 use Rattle.windows.proofs.Records.{sixteen-ext, listed-at}
 use Rattle.windows.proofs.Runs.{wrote-by}
@@ -24,7 +24,7 @@ use Rattle.windows.proofs.Runs.{wrote-by}
 -- ---- the cluster
 -- costs that are flipped by e, and then the operator at 0, are the operator at e
 operated : (A B : ℕ → ℕ) (e : ℕ) → e < 2
-    → sixteen (wrapOf (entry (flipped e (eight A))) (entry (eight B)) 0) ≡ sixteen (wrapOf A B e)
+    → sixteen (wrapOf false (entry (flipped e (eight A))) (entry (eight B)) 0) ≡ sixteen (wrapOf false A B e)
 unfolding wrapOf
 operated A B zero h = refl
 operated A B (suc zero) h = refl
@@ -35,62 +35,25 @@ read-is : (b : Bool) (o : ℕ) (t : List ℕ) (p x₁ x₂ x₃ : ℕ)
 read-is true o t p x₁ x₂ x₃ = ap (λ (k : ℕ). getD t k 0) (omega arith)
 read-is false o t p x₁ x₂ x₃ = ap₂ (λ (k j : ℕ). min (getD t k 0) (getD t j 0)) (omega arith) (omega arith)
 
-op-is : (f f′ g g′ : ℕ → ℕ → ℕ → ℕ) → ((a b c : ℕ) → f a b c ≡ f′ a b c) → ((a b c : ℕ) → g a b c ≡ g′ a b c)
-    → (e x₁ x₂ x₃ x₄ : ℕ) → op4w f g e x₁ x₂ x₃ x₄ ≡ op4w f′ g′ e x₁ x₂ x₃ x₄
-op-is f f′ g g′ p q e x₁ x₂ x₃ x₄ = ap₂ min (at 0) (at 1)
+op-is : (arikan : Bool) (f f′ g g′ : ℕ → ℕ → ℕ → ℕ)
+    → ((a b c : ℕ) → f a b c ≡ f′ a b c) → ((a b c : ℕ) → g a b c ≡ g′ a b c)
+    → (e x₁ x₂ x₃ x₄ : ℕ) → op4w arikan f g e x₁ x₂ x₃ x₄ ≡ op4w arikan f′ g′ e x₁ x₂ x₃ x₄
+op-is arikan f f′ g g′ p q e x₁ x₂ x₃ x₄ = ap₂ min (at 0) (at 1)
   where
-    at : (t : ℕ) → (f (e ⊕ (x₁ ⊕ x₂)) (x₂ ⊕ (x₃ ⊕ x₄)) (x₄ ⊕ t) + g (x₁ ⊕ x₂) (x₃ ⊕ x₄) t) % 2 ^ 32
-        ≡ (f′ (e ⊕ (x₁ ⊕ x₂)) (x₂ ⊕ (x₃ ⊕ x₄)) (x₄ ⊕ t) + g′ (x₁ ⊕ x₂) (x₃ ⊕ x₄) t) % 2 ^ 32
-    at t = ap₂ (λ (u v : ℕ). (u + v) % 2 ^ 32) (p (e ⊕ (x₁ ⊕ x₂)) (x₂ ⊕ (x₃ ⊕ x₄)) (x₄ ⊕ t)) (q (x₁ ⊕ x₂) (x₃ ⊕ x₄) t)
+    s : ℕ
+    s = x₁ ⊕ carry arikan x₂
 
-eighth-2 : (x : ℕ) → x < 16 → x % 8 / 2 % 2 ≡ x / 2 % 2
-eighth-2 x l =
-    let q : x ≡ x % 8 + 8 * (x / 8) = omega arith in
-    let r : x / 2 ≡ x % 8 / 2 + 2 * (2 * (x / 8)) = omega arith in
-    rw r (omega arith)
+    u : ℕ
+    u = x₃ ⊕ carry arikan x₄
 
-eighth-4 : (x : ℕ) → x < 16 → x % 8 / 4 % 2 ≡ x / 4 % 2
-eighth-4 x l =
-    let r : x / 4 ≡ x % 8 / 4 + 2 * (x / 8) = omega arith in
-    rw r (omega arith)
+    at : (t : ℕ) → (f (e ⊕ s) (x₂ ⊕ u) (x₄ ⊕ t) + g s u t) % 2 ^ 32 ≡ (f′ (e ⊕ s) (x₂ ⊕ u) (x₄ ⊕ t) + g′ s u t) % 2 ^ 32
+    at t = ap₂ (λ (v w : ℕ). (v + w) % 2 ^ 32) (p (e ⊕ s) (x₂ ⊕ u) (x₄ ⊕ t)) (q s u t)
 
-mask-is : (n : ℕ) (f f′ : ℕ → ℕ → ℕ → ℕ → ℕ) → n % 2 ≡ 1 → ((a b c d : ℕ) → f a b c d ≡ f′ a b c d)
-    → (x : ℕ) → x < 16 → at4 f (inside n x) ≡ at4 (mask4 n f′) x
-mask-is zero f f′ h p x l = absurd (omega arith)
-mask-is (suc zero) f f′ h p x l =
-    let e₁ : x % 2 % 2 ≡ x % 2 = omega arith in
-    let e₂ : x % 2 / 2 ≡ 0 = omega arith in
-    let e₄ : x % 2 / 4 ≡ 0 = omega arith in
-    let e₈ : x % 2 / 8 ≡ 0 = omega arith in
-    rw (e₁, e₂, e₄, e₈) (p (x % 2) 0 0 0)
-mask-is (suc (suc zero)) f f′ h p x l = absurd (omega arith)
-mask-is (suc (suc (suc zero))) f f′ h p x l =
-    let e₁ : x % 8 % 2 ≡ x % 2 = omega arith in
-    let e₂ : x % 8 / 2 % 2 ≡ x / 2 % 2 = eighth-2 x l in
-    let e₄ : x % 8 / 4 % 2 ≡ x / 4 % 2 = eighth-4 x l in
-    let e₈ : x % 8 / 8 ≡ 0 = omega arith in
-    rw (e₁, e₂, e₄, e₈) (p (x % 2) (x / 2 % 2) (x / 4 % 2) 0)
-mask-is (suc (suc (suc (suc n)))) f f′ h p x l = p (x % 2) (x / 2 % 2) (x / 4 % 2) (x / 8 % 2)
-
-mask-wrap : (A B : ℕ → ℕ) (e x : ℕ) → wrapOf A B e x ≡ at4 (op4w (three A) (three B) e) x
+wrap-at : (A B : ℕ → ℕ) (e x : ℕ) → wrapOf false A B e x ≡ at4 (op4w false (three A) (three B) e) x
 unfolding wrapOf
-mask-wrap A B e x = refl
+wrap-at A B e x = refl
 
-inside-lt : (n x : ℕ) → x < 16 → inside n x < 16
-inside-lt zero x l = l
-inside-lt (suc zero) x l = omega arith
-inside-lt (suc (suc zero)) x l = l
-inside-lt (suc (suc (suc zero))) x l = omega arith
-inside-lt (suc (suc (suc (suc n)))) x l = l
-
-pub masked-full : (n : ℕ) (s : Sixteen) → (n ≡ 1 → ⊥) → (n ≡ 3 → ⊥) → s ≡ masked n s
-masked-full zero s p q = refl
-masked-full (suc zero) s p q = absurd (p refl)
-masked-full (suc (suc zero)) s p q = refl
-masked-full (suc (suc (suc zero))) s p q = absurd (q refl)
-masked-full (suc (suc (suc (suc n)))) s p q = refl
-
-module _ (b : Bool) (left e oa ob pa pb to : ℕ) (t t′ : List ℕ) (hn : left % 2 ≡ 1) (he : e < 2) where
+module _ (b : Bool) (e oa ob pa pb to : ℕ) (t t′ : List ℕ) (he : e < 2) where
   abbrev A : ℕ → ℕ
   A = readB b oa t pa
 
@@ -98,23 +61,20 @@ module _ (b : Bool) (left e oa ob pa pb to : ℕ) (t t′ : List ℕ) (hn : left
   B = readB b ob t pb
 
   abbrev made : Sixteen
-  made = masked left (sixteen (wrapOf (entry (flipped e (eight A))) (entry (eight B)) 0))
+  made = sixteen (wrapOf false (entry (flipped e (eight A))) (entry (eight B)) 0)
 
-  made-at : (x : ℕ) → x < 16 → getD (listed made) x 0 ≡ lift32 left (kindB b) (tabAt t pa oa) (tabAt t pb ob) e x
+  made-at : (x : ℕ) → x < 16 → getD (listed made) x 0 ≡ plain32 (kindB b) (tabAt t pa oa) (tabAt t pb ob) e x
   made-at x l =
-      ap (λ (s : Sixteen). getD (listed (masked left s)) x 0) (operated A B e he)
-      ∙ listed-at (λ (z : ℕ). getD (listed (sixteen (wrapOf A B e))) (inside left z) 0) x l
-      ∙ listed-at (wrapOf A B e) (inside left x) (inside-lt left x l)
-      ∙ mask-wrap A B e (inside left x)
-      ∙ mask-is left (op4w (three A) (three B) e)
-      (op4w (read3 (kindB b) (tabAt t pa oa)) (read3 (kindB b) (tabAt t pb ob)) e) hn
-      (op-is (three A) (read3 (kindB b) (tabAt t pa oa)) (three B) (read3 (kindB b) (tabAt t pb ob))
-      (read-is b oa t pa) (read-is b ob t pb) e) x l
+      ap (λ (s : Sixteen). getD (listed s) x 0) (operated A B e he)
+      ∙ listed-at (wrapOf false A B e) x l
+      ∙ wrap-at A B e x
+      ∙ op-is false (three A) (read3 (kindB b) (tabAt t pa oa)) (three B) (read3 (kindB b) (tabAt t pb ob))
+      (read-is b oa t pa) (read-is b ob t pb) e (x % 2) (x / 2 % 2) (x / 4 % 2) (x / 8 % 2)
 
   pub node-wrote : (s : Sixteen) → s ≡ made → Wrote (λ x. getD (listed s) x 0) to 16 t t′
-      → Wrote (lift32 left (kindB b) (tabAt t pa oa) (tabAt t pb ob) e) to 16 t t′
+      → Wrote (plain32 (kindB b) (tabAt t pa oa) (tabAt t pb ob) e) to 16 t t′
   node-wrote s r =
-      wrote-by (λ x. getD (listed s) x 0) (lift32 left (kindB b) (tabAt t pa oa) (tabAt t pb ob) e) to 16 t t′
+      wrote-by (λ x. getD (listed s) x 0) (plain32 (kindB b) (tabAt t pa oa) (tabAt t pb ob) e) to 16 t t′
       (λ x l. ap (λ (s : Sixteen). getD (listed s) x 0) r ∙ made-at x l)
 
 -- a window that is given by its function
@@ -146,16 +106,28 @@ peek-least b o t p x
     by-phase false = refl
 
 -- ---- the start
-pub bottom-is : (a b c d : ℤ) → wordCosts (pairCosts a b) (pairCosts c d) ≡ sixteen (F (a ∷ b ∷ c ∷ d ∷ []))
-unfolding F4 transform
-bottom-is a b c d = sixteen-ext _ _
-    (at 0 0 0 0) (at 1 0 0 0) (at 1 1 0 0) (at 0 1 0 0) (at 0 1 1 0) (at 1 1 1 0) (at 1 0 1 0) (at 0 0 1 0)
-    (at 1 1 1 1) (at 0 1 1 1) (at 0 0 1 1) (at 1 0 1 1) (at 1 0 0 1) (at 0 0 0 1) (at 0 1 0 1) (at 1 1 0 1)
+pub bottom-is : (arikan : Bool) (a b c d : ℤ) → rebasedOf arikan (wordCosts (pairCosts a b) (pairCosts c d)) ≡ sixteen (F arikan (a ∷ b ∷ c ∷ d ∷ []))
+unfolding F4 byPlaces
+bottom-is arikan a b c d = go arikan
   where
     -- by the channel bits
     at : (p q r s : ℕ) → (bitCost a p + bitCost b q) + (bitCost c r + bitCost d s)
         ≡ bitCost a p + (bitCost b q + (bitCost c r + (bitCost d s + 0)))
     at p q r s = omega arith
+
+    go : (arikan : Bool) → rebasedOf arikan (wordCosts (pairCosts a b) (pairCosts c d)) ≡ sixteen (F arikan (a ∷ b ∷ c ∷ d ∷ []))
+    go false = sixteen-ext _ _
+        (at 0 0 0 0) (at 1 0 0 0) (at 1 1 0 0) (at 0 1 0 0) (at 0 1 1 0) (at 1 1 1 0) (at 1 0 1 0) (at 0 0 1 0)
+        (at 1 1 1 1) (at 0 1 1 1) (at 0 0 1 1) (at 1 0 1 1) (at 1 0 0 1) (at 0 0 0 1) (at 0 1 0 1) (at 1 1 0 1)
+    go true = sixteen-ext _ _
+        (at 0 0 0 0) (at 1 0 0 0) (at 1 1 0 0) (at 0 1 0 0) (at 1 0 1 0) (at 0 0 1 0) (at 0 1 1 0) (at 1 1 1 0)
+        (at 1 1 1 1) (at 0 1 1 1) (at 0 0 1 1) (at 1 0 1 1) (at 0 1 0 1) (at 1 1 0 1) (at 1 0 0 1) (at 0 0 0 1)
+
+-- the order of the costs is all that differs between the transforms
+pub untied-is : (arikan : Bool) (A B : ℕ → ℕ) → untiedOf arikan (sixteen (wrapOf false A B 0)) ≡ sixteen (wrapOf arikan A B 0)
+unfolding wrapOf
+untied-is true A B = refl
+untied-is false A B = refl
 
 module _ (t : List ℕ) (pa pb : ℕ) where
   abbrev oddA : ℕ → ℕ
@@ -164,21 +136,28 @@ module _ (t : List ℕ) (pa pb : ℕ) where
   abbrev oddB : ℕ → ℕ
   oddB = oddRead t pb
 
-  pub first-is : woven (freeLast (sixteen (wrapOf (entry (eight oddA)) (entry (eight oddB)) 0)))
-      (freeLast (sixteen (wrapOf (entry (flipped 1 (eight oddA))) (entry (eight oddB)) 0)))
-      ≡ sixteen (first32 (tabAt t pa 0) (tabAt t pb 0))
-  unfolding wrapOf
-  first-is = sixteen-ext _ _
-      (at 0 0 0 0) (at 1 0 0 0) (at 0 1 0 0) (at 1 1 0 0) (at 0 0 1 0) (at 1 0 1 0) (at 0 1 1 0) (at 1 1 1 0)
-      (at 0 0 0 1) (at 1 0 0 1) (at 0 1 0 1) (at 1 1 0 1) (at 0 0 1 1) (at 1 0 1 1) (at 0 1 1 1) (at 1 1 1 1)
+  -- by the window's bits
+  first-at : (arikan : Bool) (x₁ x₂ x₃ x₄ : ℕ)
+      → least (λ f. op4w arikan (three oddA) (three oddB) x₁ x₂ x₃ x₄ f)
+      ≡ least (λ f. op4w arikan (read3 odd (tabAt t pa 0)) (read3 odd (tabAt t pb 0)) x₁ x₂ x₃ x₄ f)
+  first-at arikan x₁ x₂ x₃ x₄ = ap₂ min (free 0) (free 1)
     where
-      -- by the window's bits
-      at : (x₁ x₂ x₃ x₄ : ℕ)
-          → least (λ f. op4w (three oddA) (three oddB) x₁ x₂ x₃ x₄ f)
-          ≡ least (λ f. op4w (read3 odd (tabAt t pa 0)) (read3 odd (tabAt t pb 0)) x₁ x₂ x₃ x₄ f)
-      at x₁ x₂ x₃ x₄ = ap₂ min (free 0) (free 1)
-        where
-          free : (f : ℕ) → op4w (three oddA) (three oddB) x₁ x₂ x₃ x₄ f
-              ≡ op4w (read3 odd (tabAt t pa 0)) (read3 odd (tabAt t pb 0)) x₁ x₂ x₃ x₄ f
-          free = op-is (three oddA) (read3 odd (tabAt t pa 0)) (three oddB) (read3 odd (tabAt t pb 0))
-              (read-is false 0 t pa) (read-is false 0 t pb) x₁ x₂ x₃ x₄
+      free : (f : ℕ) → op4w arikan (three oddA) (three oddB) x₁ x₂ x₃ x₄ f
+          ≡ op4w arikan (read3 odd (tabAt t pa 0)) (read3 odd (tabAt t pb 0)) x₁ x₂ x₃ x₄ f
+      free = op-is arikan (three oddA) (read3 odd (tabAt t pa 0)) (three oddB) (read3 odd (tabAt t pb 0))
+          (read-is false 0 t pa) (read-is false 0 t pb) x₁ x₂ x₃ x₄
+
+  pub first-is : (arikan : Bool) → woven (freeLast (sixteen (wrapOf arikan (entry (eight oddA)) (entry (eight oddB)) 0)))
+      (freeLast (sixteen (wrapOf arikan (entry (flipped 1 (eight oddA))) (entry (eight oddB)) 0)))
+      ≡ sixteen (first32 arikan (tabAt t pa 0) (tabAt t pb 0))
+  unfolding wrapOf
+  first-is true = sixteen-ext _ _
+      (first-at true 0 0 0 0) (first-at true 1 0 0 0) (first-at true 0 1 0 0) (first-at true 1 1 0 0)
+      (first-at true 0 0 1 0) (first-at true 1 0 1 0) (first-at true 0 1 1 0) (first-at true 1 1 1 0)
+      (first-at true 0 0 0 1) (first-at true 1 0 0 1) (first-at true 0 1 0 1) (first-at true 1 1 0 1)
+      (first-at true 0 0 1 1) (first-at true 1 0 1 1) (first-at true 0 1 1 1) (first-at true 1 1 1 1)
+  first-is false = sixteen-ext _ _
+      (first-at false 0 0 0 0) (first-at false 1 0 0 0) (first-at false 0 1 0 0) (first-at false 1 1 0 0)
+      (first-at false 0 0 1 0) (first-at false 1 0 1 0) (first-at false 0 1 1 0) (first-at false 1 1 1 0)
+      (first-at false 0 0 0 1) (first-at false 1 0 0 1) (first-at false 0 1 0 1) (first-at false 1 1 0 1)
+      (first-at false 0 0 1 1) (first-at false 1 0 1 1) (first-at false 0 1 1 1) (first-at false 1 1 1 1)

@@ -7,8 +7,9 @@ use mathlib.Core.List.{List, [], _∷_}
 use Prim.Native.Nat.{ℕ, zero, suc, _+_, _*_, _%_, _<_, _≤_, _^_, min}
 use lib.ListN.{getD, length}
 use Rattle.spec.specs.Bits.{_⊕_}
+use Rattle.laws.specs.Places.{carry}
 use Rattle.laws.specs.Layer.{least}
-use Rattle.laws.specs.Windows.{mask4, at4, pack3}
+use Rattle.laws.specs.Windows.{mask4, at4, pack3, pack4}
 use Rattle.laws.specs.Nodes.{Kind, odd, even}
 use Rattle.laws.specs.Cells.{Cell, read3, peek}
 use Rattle.windows.specs.declared.window.Eight.{Eight}
@@ -69,15 +70,65 @@ readB false o t p = oddRead t p
 
 -- ---- the operator
 -- with sums that wrap
-abbrev pub op4w : (ℕ → ℕ → ℕ → ℕ) → (ℕ → ℕ → ℕ → ℕ) → ℕ → ℕ → ℕ → ℕ → ℕ → ℕ
-op4w f g e x₁ x₂ x₃ x₄ =
-    least (λ t. (f (e ⊕ (x₁ ⊕ x₂)) (x₂ ⊕ (x₃ ⊕ x₄)) (x₄ ⊕ t) + g (x₁ ⊕ x₂) (x₃ ⊕ x₄) t) % 2 ^ 32)
+abbrev pub op4w : Bool → (ℕ → ℕ → ℕ → ℕ) → (ℕ → ℕ → ℕ → ℕ) → ℕ → ℕ → ℕ → ℕ → ℕ → ℕ
+op4w arikan f g e x₁ x₂ x₃ x₄ =
+    least (λ t. (f (e ⊕ (x₁ ⊕ carry arikan x₂)) (x₂ ⊕ (x₃ ⊕ carry arikan x₄)) (x₄ ⊕ t)
+    + g (x₁ ⊕ carry arikan x₂) (x₃ ⊕ carry arikan x₄) t) % 2 ^ 32)
 
 abbrev pub three : (ℕ → ℕ) → ℕ → ℕ → ℕ → ℕ
 three f a b c = f (pack3 a b c)
 
-unfoldable pub wrapOf : (ℕ → ℕ) → (ℕ → ℕ) → ℕ → ℕ → ℕ
-wrapOf A B e = at4 (op4w (three A) (three B) e)
+unfoldable pub wrapOf : Bool → (ℕ → ℕ) → (ℕ → ℕ) → ℕ → ℕ → ℕ
+wrapOf arikan A B e = at4 (op4w arikan (three A) (three B) e)
+
+-- a window of Arikan's transform from the other's: x₁ stands for x₁ + x₂, and x₃ for x₃ + x₄
+abbrev pub untiedOf : Bool → Sixteen → Sixteen
+untiedOf true s = record {
+  x0 = s .x0;
+  x1 = s .x1;
+  x2 = s .x3;
+  x3 = s .x2;
+  x4 = s .x4;
+  x5 = s .x5;
+  x6 = s .x7;
+  x7 = s .x6;
+  x8 = s .x12;
+  x9 = s .x13;
+  x10 = s .x15;
+  x11 = s .x14;
+  x12 = s .x8;
+  x13 = s .x9;
+  x14 = s .x11;
+  x15 = s .x10;
+}
+untiedOf false s = s
+
+-- that order by its bits
+abbrev pub untiedAt : Bool → ℕ → ℕ
+untiedAt true x = at4 (λ x₁ x₂ x₃ x₄. pack4 (x₁ ⊕ x₂) x₂ (x₃ ⊕ x₄) x₄) x
+untiedAt false x = x
+
+-- the costs of the bottom's words: u₁ stands for u₁ + u₂
+abbrev pub rebasedOf : Bool → Sixteen → Sixteen
+rebasedOf true s = record {
+  x0 = s .x0;
+  x1 = s .x1;
+  x2 = s .x2;
+  x3 = s .x3;
+  x4 = s .x6;
+  x5 = s .x7;
+  x6 = s .x4;
+  x7 = s .x5;
+  x8 = s .x8;
+  x9 = s .x9;
+  x10 = s .x10;
+  x11 = s .x11;
+  x12 = s .x14;
+  x13 = s .x15;
+  x14 = s .x12;
+  x15 = s .x13;
+}
+rebasedOf false s = s
 
 -- a's costs, where e is 1 each in the other's place of the first bit
 abbrev pub flipped : ℕ → Eight → Eight
@@ -120,8 +171,16 @@ abbrev pub tabAt : List ℕ → ℕ → ℕ → Cell
 tabAt t p o = record { costs = λ x. getD t (p + x) 0; evenBit = 0; sumBit = 0; oddBit = o }
 
 -- the window of an odd prefix that ends in e, from its children's cells: r places are left, k is the children's kind
-abbrev pub lift32 : ℕ → Kind → Cell → Cell → ℕ → ℕ → ℕ
-lift32 r k ca cb e = at4 (mask4 r (op4w (read3 k ca) (read3 k cb) e))
+abbrev pub lift32 : Bool → ℕ → Kind → Cell → Cell → ℕ → ℕ → ℕ
+lift32 arikan r k ca cb e = at4 (mask4 r (op4w arikan (read3 k ca) (read3 k cb) e))
+
+-- the costs that it is made of: the convolutional operator's, with no end of the word in sight
+abbrev pub plain32 : Kind → Cell → Cell → ℕ → ℕ → ℕ
+plain32 k ca cb e = at4 (op4w false (read3 k ca) (read3 k cb) e)
+
+-- where its cost at x stands among them
+abbrev pub source : Bool → ℕ → ℕ → ℕ
+source arikan r x = untiedAt arikan (inside r x)
 
 -- ---- the bottom layer: a window picked from the sixteen costs at p, z being the decided bits
 abbrev pub bottomF : Bool → List ℕ → ℕ → ℕ → ℕ → ℕ

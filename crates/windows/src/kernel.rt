@@ -1,12 +1,14 @@
 // The cluster: a node's window from its two children's.
 ghost use mathlib.Core.Path.{_≡_};
+ghost use mathlib.Core.Bool.{false};
 ghost use Prim.Native.Nat.{_+_, _%_, _≤_, _^_, min};
 ghost use mathlib.Core.List.{[], _∷_};
 ghost use lib.ListN.{length, getD};
-ghost use Rattle.windows.specs.Op.{wrapOf, entry, sixteen, flipped, masked, kindB, tabAt, lift32, Wrote};
+ghost use Rattle.windows.specs.Op.{wrapOf, entry, sixteen, untiedOf, flipped, kindB, tabAt, plain32, source, Wrote};
 use crate::ends::ends;
 use crate::table::read;
 use crate::table::store;
+use crate::table::window_at;
 use crate::window::Eight;
 use crate::window::Sixteen;
 use crate::window::least;
@@ -41,9 +43,10 @@ pub(crate) fn flip(a: Eight, e: u8) -> Eight
     }
 }
 
-// The operator where that bit is 0: of the children's bits a0 a1 a2 and b0 b1 b2 the last is free.
-pub(crate) fn combine(a: Eight, b: Eight) -> Sixteen
-    ensures { λ r. ⌜ r ≡ sixteen (wrapOf (entry a) (entry b) 0) ⌝ }
+// The convolutional operator where that bit is 0: of the children's bits a0 a1 a2 and b0 b1 b2 the last
+// is free.
+fn tied(a: Eight, b: Eight) -> Sixteen
+    ensures { λ r. ⌜ r ≡ sixteen (wrapOf false (entry a) (entry b) 0) ⌝ }
 {
     Sixteen {
         x0: cell(a.c0, b.c0, a.c4, b.c4),
@@ -65,31 +68,65 @@ pub(crate) fn combine(a: Eight, b: Eight) -> Sixteen
     }
 }
 
-fn lift(a: Eight, b: Eight, e: u8, left: usize) -> Sixteen
-    ensures { λ r. ⌜ r ≡ masked left (sixteen (wrapOf (entry (flipped (e % 2) a)) (entry b) 0)) ⌝ }
+// Arikan's operator has the same costs in another order.
+fn untied(s: Sixteen, arikan: bool) -> Sixteen
+    ensures { λ r. ⌜ r ≡ untiedOf arikan s ⌝ }
 {
-    ends(combine(flip(a, e), b), left)
+    if arikan {
+        return Sixteen {
+            x0: s.x0,
+            x1: s.x1,
+            x2: s.x3,
+            x3: s.x2,
+            x4: s.x4,
+            x5: s.x5,
+            x6: s.x7,
+            x7: s.x6,
+            x8: s.x12,
+            x9: s.x13,
+            x10: s.x15,
+            x11: s.x14,
+            x12: s.x8,
+            x13: s.x9,
+            x14: s.x11,
+            x15: s.x10,
+        };
+    }
+    s
 }
 
-// The window of a node whose last decided bit is e, with `left` places left, from its children's at
-// pa and pb, read at an even phase with the odd bits oa and ob, to the place `to`.
-pub fn node(
-    t: &mut [u32],
-    pa: usize,
-    pb: usize,
-    to: usize,
-    oa: u8,
-    ob: u8,
-    e: u8,
-    left: usize,
-    even: bool,
-)
-    requires { ⌜ (pa + 16 ≤ length (now t)) × (pb + 16 ≤ length (now t)) × (to + 16 ≤ length (now t))
-        × (left % 2 ≡ 1) ⌝ }
-    ensures { λ _. ⌜ Wrote (lift32 left (kindB even) (tabAt (now (t .entry)) pa (oa % 2))
+// The operator of either transform.
+pub(crate) fn combine(a: Eight, b: Eight, arikan: bool) -> Sixteen
+    ensures { λ r. ⌜ r ≡ sixteen (wrapOf arikan (entry a) (entry b) 0) ⌝ }
+{
+    untied(tied(a, b), arikan)
+}
+
+fn lift(a: Eight, b: Eight, e: u8) -> Sixteen
+    ensures { λ r. ⌜ r ≡ sixteen (wrapOf false (entry (flipped (e % 2) a)) (entry b) 0) ⌝ }
+{
+    tied(flip(a, e), b)
+}
+
+// What the convolutional operator makes of a node's children, whose windows are at pa and pb, read at
+// an even phase with the odd bits oa and ob; e is the node's last decided bit. The order of the other
+// transform and the end of the word are left to `finish`, so that the loop over the nodes, where the
+// time goes, has a case for neither.
+pub fn node(t: &mut [u32], pa: usize, pb: usize, to: usize, oa: u8, ob: u8, e: u8, even: bool)
+    requires { ⌜ (pa + 16 ≤ length (now t)) × (pb + 16 ≤ length (now t)) × (to + 16 ≤ length (now t)) ⌝ }
+    ensures { λ _. ⌜ Wrote (plain32 (kindB even) (tabAt (now (t .entry)) pa (oa % 2))
         (tabAt (now (t .entry)) pb (ob % 2)) (e % 2)) to 16 (now (t .entry)) (now (t .exit)) ⌝ }
 {
     let a = read(t, pa, oa, even);
     let b = read(t, pb, ob, even);
-    store(t, to, lift(a, b, e, left));
+    store(t, to, lift(a, b, e));
+}
+
+// The window of a node with `left` places left, from what `node` left at `to`.
+pub fn finish(t: &mut [u32], to: usize, left: usize, arikan: bool)
+    requires { ⌜ to + 16 ≤ length (now t) ⌝ }
+    ensures { λ _. ⌜ Wrote (λ x. getD (now (t .entry)) (to + source arikan left x) 0) to 16
+        (now (t .entry)) (now (t .exit)) ⌝ }
+{
+    store(t, to, ends(untied(window_at(t, to), arikan), left));
 }

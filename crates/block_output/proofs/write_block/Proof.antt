@@ -23,7 +23,7 @@ returns : tie.Need-returns
 returns c =
     let s = c .before .before .before .before .before .before .before .before .before .args in
     let n : 64 < 2 ^ s .m = omega (arith, c .before .before .before .before .before .size .ensures .0, c .before .before .before .before .if1 .taken) in
-    begins-same (too-wide (s .m) (s .l) (s .p) (s .frame) (s .count) (s .map .now) (s .pairs .now) (s .soft .now) n) (c .before .before .write-refused .ensures)
+    begins-same (too-wide (s .m) (s .arikan) (s .l) (s .p) (s .frame) (s .count) (s .map .now) (s .pairs .now) (s .soft .now) n) (c .before .before .write-refused .ensures)
 
 write-refused-requires-2 : tie.Need-write-refused-requires-2
 write-refused-requires-2 c κs = omega arith
@@ -35,7 +35,7 @@ returns-2 : tie.Need-returns-2
 returns-2 c =
     let s = c .before .before .before .before .before .before .before .before .before .before .args in
     let n : 2 ^ s .m ≤ 64 = omega (arith, c .before .before .before .before .before .before .size .ensures .0, c .before .before .before .before .before .if1 .left) in
-    begins-same (too-many (s .m) (s .l) (s .p) (s .frame) (s .count) (s .map .now) (s .pairs .now) (s .soft .now) n (c .before .before .before .before .if2 .taken)) (c .before .before .write-refused2 .ensures)
+    begins-same (too-many (s .m) (s .arikan) (s .l) (s .p) (s .frame) (s .count) (s .map .now) (s .pairs .now) (s .soft .now) n (c .before .before .before .before .if2 .taken)) (c .before .before .write-refused2 .ensures)
 
 add-k : tie.Need-add-k
 add-k c = omega arith
@@ -70,8 +70,8 @@ returns-3 c =
     let n = c .before .before .before .before .before .before .before .before .before .size in
     let narrow : 2 ^ s .m ≤ 64 = omega (arith, n .ensures .0, c .before .before .before .before .before .before .before .before .if1 .left) in
     begins-same
-    (ap (λ (k : ℕ). decodedText (code (s .m) (take ((k + 7) / 8) (s .map .now)) (take (4 * s .count) (s .pairs .now))) (s .l) (s .p) (s .frame) (take k (s .soft .now))) (n .ensures .0)
-    ∙ fitting (s .m) (s .l) (s .p) (s .frame) (s .count) (s .map .now) (s .pairs .now) (s .soft .now) narrow (c .before .before .before .before .before .before .before .if2 .left))
+    (ap (λ (k : ℕ). decodedText (code (s .m) (s .arikan) (take ((k + 7) / 8) (s .map .now)) (take (4 * s .count) (s .pairs .now))) (s .l) (s .p) (s .frame) (take k (s .soft .now))) (n .ensures .0)
+    ∙ fitting (s .m) (s .arikan) (s .l) (s .p) (s .frame) (s .count) (s .map .now) (s .pairs .now) (s .soft .now) narrow (c .before .before .before .before .before .before .before .if2 .left))
     (c .before .before .write-decoded .ensures)
 
 pub write-block-spec : {M : Type 1} → statement M

@@ -14,7 +14,7 @@ abbrev start : tie.After-decode → tie.Start
 start d = d .before .before .before .before .before .before .before .before .before
 
 abbrev coded : tie.After-decode → Code
-coded d = code (start d .args .m) (start d .args .map .now) (start d .args .pairs .now)
+coded d = code (start d .args .m) (start d .args .arikan) (start d .args .map .now) (start d .args .pairs .now)
 
 -- what the decoder answers and leaves
 abbrev decoded : tie.After-decode → Decoding
@@ -22,7 +22,7 @@ decoded d =
     let z = d .decode .last in
     decoding
     (answerOf (d .decode .result))
-    (lent (z .1 .1 .1 .1 .1 .1 .0) (z .1 .1 .1 .1 .1 .1 .1 .0) (z .1 .1 .1 .1 .1 .1 .1 .1 .0) (z .1 .1 .1 .1 .1 .1 .1 .1 .1 .0) (z .1 .1 .1 .1 .1 .1 .1 .1 .1 .1 .0))
+    (lent (z .1 .1 .1 .1 .1 .1 .1 .0) (z .1 .1 .1 .1 .1 .1 .1 .1 .0) (z .1 .1 .1 .1 .1 .1 .1 .1 .1 .0) (z .1 .1 .1 .1 .1 .1 .1 .1 .1 .1 .0) (z .1 .1 .1 .1 .1 .1 .1 .1 .1 .1 .1 .0))
 
 slice-aggregate-decode : tie.Need-slice-aggregate-decode
 slice-aggregate-decode c = omega arith

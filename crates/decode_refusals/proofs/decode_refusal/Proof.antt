@@ -1,5 +1,6 @@
 -- `decode_refusals::decode_refusal` meets its contract: the three parts of the table, one after the other. Assumes nothing.
 use mathlib.Core.Path.{ap, _∙_}
+use mathlib.Core.Bool.{Bool, false}
 use mathlib.Core.List.{List, _++_}
 use Prim.Native.Nat.{ℕ, _^_, _≤_}
 use borrow.Author.Needs.{needs}
@@ -13,15 +14,15 @@ use Rattle.decode_refusals.proofs.decode_refusal.Statement.{statement}
 use Rattle.decode_refusals.proofs.decode_refusal.Tie as tie
 
 -- what a table in which nothing applies says
-m-fits : (m : ℕ) (map pairs : List ℕ) → First (codeFaults (code m map pairs)) 0 → (2 ≤ m) × (m ≤ 10)
-m-fits m map pairs (later e f) = inside-of 2 10 m e
+m-fits : (m : ℕ) (arikan : Bool) (map pairs : List ℕ) → First (codeFaults (code m arikan map pairs)) 0 → (2 ≤ m) × (m ≤ 10)
+m-fits m arikan map pairs (later e f) = inside-of 2 10 m e
 
 l-fits : (n l p : ℕ) (soft : List ℤ) → First (runFaults n l p soft) 0 → (1 ≤ l) × (l ≤ 32)
 l-fits n l p soft (later e f) = inside-of 1 32 l e
 
 -- the three parts
-codeF : tie.Start → List Fault
-codeF c = codeFaults (code (c .args .m) (c .args .map .now) (c .args .pairs .now))
+codeF : tie.Start → Bool → List Fault
+codeF c arikan = codeFaults (code (c .args .m) arikan (c .args .map .now) (c .args .pairs .now))
 
 run : tie.Start → ℕ → List Fault
 run c n = runFaults n (c .args .l) (c .args .p) (c .args .soft .now)
@@ -29,29 +30,31 @@ run c n = runFaults n (c .args .l) (c .args .p) (c .args .soft .now)
 lentF : tie.Start → ℕ → List Fault
 lentF c n = tableFaults n (c .args .l) (room (c .args .numbers) (c .args .bytes) (c .args .inputs) (c .args .words) (c .args .scores))
 
-table : tie.Start → List Fault
-table c = codeF c ++ (run c (2 ^ c .args .m) ++ lentF c (2 ^ c .args .m))
+table : tie.Start → Bool → List Fault
+table c arikan = codeF c arikan ++ (run c (2 ^ c .args .m) ++ lentF c (2 ^ c .args .m))
 
-code-found : (c : tie.After-code-refusal) → First (codeF (c .before .before .before)) (c .code-refusal .result)
+code-found : (c : tie.After-code-refusal) (arikan : Bool) → First (codeF (c .before .before .before) arikan) (c .code-refusal .result)
 unfolding codeF
-code-found c = of-first (codeF (c .before .before .before)) (c .code-refusal .result) (c .code-refusal .ensures)
+code-found c arikan = of-first (codeF (c .before .before .before) arikan) (c .code-refusal .result) (c .code-refusal .ensures arikan)
 
-code-none : (c : tie.Else1) → First (codeF (c .before .before .before .before)) 0
-code-none c = rw (c .if1 .left) at (code-found (c .before))
+code-none : (c : tie.Else1) (arikan : Bool) → First (codeF (c .before .before .before .before) arikan) 0
+code-none c arikan = rw (c .if1 .left) at (code-found (c .before) arikan)
 
 code-requires : tie.Need-code-refusal-requires
 code-requires c κs = search needs
 
 returns : tie.Need-returns
 unfolding table codeF run lentF
-returns c =
+returns c arikan =
     let s = c .before .before .before .before in
-    is-first (table s) (c .before .code-refusal .result)
-    (found-before (run s (2 ^ s .args .m) ++ lentF s (2 ^ s .args .m)) (code-found (c .before)) (c .if1 .taken))
+    is-first (table s arikan) (c .before .code-refusal .result)
+    (found-before (run s (2 ^ s .args .m) ++ lentF s (2 ^ s .args .m)) (code-found (c .before) arikan) (c .if1 .taken))
 
 size-requires : tie.Need-size-requires
 unfolding codeF
-size-requires c κs = m-fits (c .before .before .before .before .args .m) (c .before .before .before .before .args .map .now) (c .before .before .before .before .args .pairs .now) (code-none c) .1
+size-requires c κs =
+    let a = c .before .before .before .before .args in
+    m-fits (a .m) false (a .map .now) (a .pairs .now) (code-none c false) .1
 
 run-requires : tie.Need-run-refusal-requires
 run-requires c κs = search needs
@@ -67,10 +70,10 @@ run-none c = rw (c .if2 .left) at (run-found (c .before))
 
 returns-2 : tie.Need-returns-2
 unfolding table codeF run lentF
-returns-2 c =
+returns-2 c arikan =
     let s = c .before .before .before .before .before .before .before in
-    is-first (table s) (c .before .run-refusal .result)
-    (found-after (next (next (next (next (next (next end)))))) (code-none (c .before .before .before)) (found-before (lentF s (2 ^ s .args .m)) (run-found (c .before)) (c .if2 .taken)))
+    is-first (table s arikan) (c .before .run-refusal .result)
+    (found-after (next (next (next (next (next (next end)))))) (code-none (c .before .before .before) arikan) (found-before (lentF s (2 ^ s .args .m)) (run-found (c .before)) (c .if2 .taken)))
 
 room-requires : tie.Need-table-refusal-requires
 unfolding run
@@ -80,10 +83,10 @@ room-requires c κs =
 
 returns-3 : tie.Need-returns-3
 unfolding table codeF run lentF
-returns-3 c =
+returns-3 c arikan =
     let s = c .before .before .before .before .before .before .before .before in
-    is-first (table s) (c .table-refusal .result)
-    (found-after (next (next (next (next (next (next end)))))) (code-none (c .before .before .before .before))
+    is-first (table s arikan) (c .table-refusal .result)
+    (found-after (next (next (next (next (next (next end)))))) (code-none (c .before .before .before .before) arikan)
     (found-after (next (next (next (next end)))) (run-none (c .before))
     (of-first (lentF s (2 ^ s .args .m)) (c .table-refusal .result) (c .table-refusal .ensures ∙ ap (λ (n : ℕ). first (lentF s n)) (c .before .before .before .size .ensures .0)))))
 

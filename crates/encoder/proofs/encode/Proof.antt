@@ -20,7 +20,7 @@ use Rattle.encoder.proofs.encode.Statement.{statement}
 use Rattle.encoder.proofs.encode.Tie as tie
 
 abbrev given : tie.Start → Code
-given c = code (c .args .m) (c .args .map .now) (c .args .pairs .now)
+given c = code (c .args .m) (c .args .arikan) (c .args .map .now) (c .args .pairs .now)
 
 abbrev table : tie.Start → List Fault
 table c = givenFaults (given c) (payloadSize (given c)) (c .args .payload .now)
@@ -40,7 +40,7 @@ returns c =
     let s = c .before .before .before .before .before .before in
     let r = c .before .payload-refusal in
     encode-refused (given s) (s .args .payload .now) (s .args .word .now) (r .result)
-    (first-before (table s) (rest s) (r .result) (r .ensures) (c .if1 .taken)) (c .if1 .taken)
+    (first-before (table s) (rest s) (r .result) (r .ensures (s .args .arikan)) (c .if1 .taken)) (c .if1 .taken)
 
 -- past the tests of the code and the payload: the number is that of the test of the room
 passed : (c : tie.Else1) (n : ℕ) → n ≡ first (rest (start c)) → n ≡ encodeRefusal (given (start c)) (start c .args .payload .now) (length (start c .args .word .now))
@@ -48,10 +48,10 @@ unfolding encodeRefusal
 passed c n e =
     let s = start c in
     let r = c .before .payload-refusal in
-    first-after (table s) (rest s) (r .result) (r .ensures) (given-numbers (given s) (payloadSize (given s)) (s .args .payload .now)) (c .if1 .left) n e
+    first-after (table s) (rest s) (r .result) (r .ensures (s .args .arikan)) (given-numbers (given s) (payloadSize (given s)) (s .args .payload .now)) (c .if1 .left) n e
 
 known : (c : tie.Else1) → Given (given (start c)) (payloadSize (given (start c))) (start c .args .payload .now)
-known c = given-of (of-first (table (start c)) 0 (sym (c .if1 .left) ∙ c .before .payload-refusal .ensures))
+known c = given-of (of-first (table (start c)) 0 (sym (c .if1 .left) ∙ c .before .payload-refusal .ensures (start c .args .arikan)))
 
 size-requires : tie.Need-size-requires
 size-requires c κs = known c .accepts .high
@@ -95,7 +95,7 @@ returns-3 c =
     let out = s .args .word .now in
     ap (written 0)
     (c .before .before .fill-bytes .ensures
-    ∙ filled-behind 0 (w .write-word .last .1 .1 .1 .1 .0) out n (w .write-word .kept .1 .1 .1 .1 .0 ∙ length-take-le n out (l .if2 .left)) (l .if2 .left)
+    ∙ filled-behind 0 (w .write-word .last .1 .1 .1 .1 .1 .0) out n (w .write-word .kept .1 .1 .1 .1 .1 .0 ∙ length-take-le n out (l .if2 .left)) (l .if2 .left)
     ∙ ap (padded 0 (length out)) (w .write-word .ensures))
     ∙ encode-served (given s) (s .args .payload .now) out
     (passed e 0 (is-first (rest s) 0 (later (le-ltb (length out) (2 ^ s .args .m) (omega (arith, l .if2 .left))) none)))

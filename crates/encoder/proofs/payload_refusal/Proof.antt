@@ -1,5 +1,6 @@
 -- `encoder::payload_refusal` meets its contract: the two parts of the table, one after the other. Assumes nothing.
 use mathlib.Core.Path.{sym, ap, _∙_}
+use mathlib.Core.Bool.{Bool, false}
 use mathlib.Core.List.{List}
 use Prim.Native.Nat.{ℕ}
 use borrow.Author.Needs.{needs}
@@ -12,34 +13,34 @@ use Rattle.code.specs.Given.{bitFaults, code-numbers}
 use Rattle.encoder.proofs.payload_refusal.Statement.{statement}
 use Rattle.encoder.proofs.payload_refusal.Tie as tie
 
-abbrev given : tie.Start → Code
-given c = code (c .args .m) (c .args .map .now) (c .args .pairs .now)
+abbrev given : tie.Start → Bool → Code
+given c arikan = code (c .args .m) arikan (c .args .map .now) (c .args .pairs .now)
 
-abbrev rest : tie.Start → List Fault
-rest c = bitFaults (payloadSize (given c)) (c .args .payload .now)
+abbrev rest : tie.Start → Bool → List Fault
+rest c arikan = bitFaults (payloadSize (given c arikan)) (c .args .payload .now)
 
 code-refusal-requires : tie.Need-code-refusal-requires
 code-refusal-requires c κs = search needs
 
 returns : tie.Need-returns
-returns c =
+returns c arikan =
     let s = c .before .before .before .before .before in
-    first-before (codeFaults (given s)) (rest s) (c .before .code-refusal .result) (c .before .code-refusal .ensures) (c .if1 .taken)
+    first-before (codeFaults (given s arikan)) (rest s arikan) (c .before .code-refusal .result) (c .before .code-refusal .ensures arikan) (c .if1 .taken)
 
 payload-size-requires : tie.Need-payload-size-requires
 payload-size-requires c κs =
-    let a = accepted (given (c .before .before .before .before .before)) (sym (c .if1 .left) ∙ c .before .code-refusal .ensures) in
+    let a = accepted (given (c .before .before .before .before .before) false) (sym (c .if1 .left) ∙ c .before .code-refusal .ensures false) in
     (a .high, a .bytes, a .ends)
 
 bit-refusal-requires : tie.Need-bit-refusal-requires
 bit-refusal-requires c κs = search needs
 
 returns-2 : tie.Need-returns-2
-returns-2 c =
+returns-2 c arikan =
     let e = c .before .before in
     let s = e .before .before .before .before .before in
-    first-after (codeFaults (given s)) (rest s) (e .before .code-refusal .result) (e .before .code-refusal .ensures) (code-numbers (given s)) (e .if1 .left)
-    (c .bit-refusal .result) (c .bit-refusal .ensures ∙ ap (λ (k : ℕ). first (bitFaults k (s .args .payload .now))) (c .before .payload-size .ensures (s .args .pairs .now)))
+    first-after (codeFaults (given s arikan)) (rest s arikan) (e .before .code-refusal .result) (e .before .code-refusal .ensures arikan) (code-numbers (given s arikan)) (e .if1 .left)
+    (c .bit-refusal .result) (c .bit-refusal .ensures ∙ ap (λ (k : ℕ). first (bitFaults k (s .args .payload .now))) (c .before .payload-size .ensures arikan (s .args .pairs .now)))
 
 pub payload-refusal-spec : {M : Type 1} → statement M
 payload-refusal-spec =

@@ -14,10 +14,10 @@ use Rattle.encoder.proofs.write_word.Statement.{statement}
 use Rattle.encoder.proofs.write_word.Tie as tie
 
 abbrev given : tie.Start → Code
-given c = code (c .args .m) (c .args .map .now) (c .args .pairs .now)
+given c = code (c .args .m) (c .args .arikan) (c .args .map .now) (c .args .pairs .now)
 
 flags : (c : tie.Start) → flagsOf (length (c .args .word .now)) (c .args .map .now) ≡ frozen (given c)
-flags c = flags-are (c .args .m) (length (c .args .word .now)) (c .args .map .now) (c .args .pairs .now) (c .pre .0)
+flags c = flags-are (c .args .m) (length (c .args .word .now)) (c .args .arikan) (c .args .map .now) (c .args .pairs .now) (c .pre .0)
 
 abbrev start : tie.After-fill-input → tie.Start
 start c = c .before .before .before .before .before .before
@@ -34,7 +34,7 @@ fill-input-requires c κs =
 
 -- the word once it is filled
 input-is : (c : tie.After-fill-input) → c .fill-input .last .1 .1 .1 .0 ≡ inputFor (given (start c)) (start c .args .payload .now)
-input-is c = c .fill-input .ensures (start c .args .m) (start c .pre .0)
+input-is c = c .fill-input .ensures (start c .args .m) (start c .args .arikan) (start c .pre .0)
 
 transform-word-requires : tie.Need-transform-word-requires
 transform-word-requires c κs =

@@ -1,5 +1,6 @@
 -- `extractor::extract` meets its contract: the tests of the code and the word, then what is left on the input. Assumes nothing.
 use mathlib.Core.Path.{_≡_, sym, ap, _∙_}
+use mathlib.Core.Bool.{Bool}
 use mathlib.Core.List.{List, _++_}
 use Prim.Native.Nat.{ℕ, _^_}
 use native.Mathlib.Omega.{arith}
@@ -15,11 +16,15 @@ use Rattle.extractor.specs.ExtractCall.{inputFaults, payloadOutcome, ext
 use Rattle.extractor.proofs.extract.Statement.{statement}
 use Rattle.extractor.proofs.extract.Tie as tie
 
-abbrev given : tie.Start → Code
-given c = code (c .args .m) (c .args .map .now) (c .args .pairs .now)
+-- the code with either transform, and with the one selected
+abbrev of : tie.Start → Bool → Code
+of c arikan = code (c .args .m) arikan (c .args .map .now) (c .args .pairs .now)
 
-abbrev table : tie.Start → List Fault
-table c = givenFaults (given c) (2 ^ c .args .m) (c .args .word .now)
+abbrev given : tie.Start → Code
+given c = of c (c .args .arikan)
+
+abbrev table : tie.Start → Bool → List Fault
+table c arikan = givenFaults (of c arikan) (2 ^ c .args .m) (c .args .word .now)
 
 abbrev rest : tie.Start → List Fault
 rest c = inputFaults (given c) (inputOf (given c) (c .args .word .now)) (length (c .args .payload .now))
@@ -36,13 +41,13 @@ returns c =
     let s = c .before .before .before .before .before .before in
     let r = c .before .word-refusal in
     extract-refused (given s) (s .args .word .now) (s .args .payload .now) (r .result)
-    (first-before (table s) (rest s) (r .result) (r .ensures) (c .if1 .taken)) (c .if1 .taken)
+    (first-before (table s (s .args .arikan)) (rest s) (r .result) (r .ensures (s .args .arikan)) (c .if1 .taken)) (c .if1 .taken)
 
-known : (c : tie.Else1) → Given (given (start c)) (2 ^ start c .args .m) (start c .args .word .now)
-known c = given-of (of-first (table (start c)) 0 (sym (c .if1 .left) ∙ c .before .word-refusal .ensures))
+known : (c : tie.Else1) (arikan : Bool) → Given (of (start c) arikan) (2 ^ start c .args .m) (start c .args .word .now)
+known c arikan = given-of (of-first (table (start c) arikan) 0 (sym (c .if1 .left) ∙ c .before .word-refusal .ensures arikan))
 
 size-requires : tie.Need-size-requires
-size-requires c κs = known c .accepts .high
+size-requires c κs = known c (start c .args .arikan) .accepts .high
 
 array-borrow-prefix-input : tie.Need-array-borrow-prefix-input
 array-borrow-prefix-input c = search needs
@@ -60,7 +65,7 @@ slice-aggregate-write-input c = sym (room (c .before))
 write-input-requires : tie.Need-write-input-requires
 write-input-requires c κs =
     let z = c .before in
-    let g = known (z .before) in (
+    let g = known (z .before) (start (z .before) .args .arikan) in (
       room z ∙ z .size .ensures .0 ∙ sym (g .long),
       record {
         least = g .accepts .low;
@@ -75,10 +80,10 @@ abbrev n : tie.After-write-input → ℕ
 n c = c .before .before .size .result
 
 abbrev written-input : tie.After-write-input → List ℕ
-written-input c = c .write-input .last .1 .1 .0
+written-input c = c .write-input .last .1 .1 .1 .0
 
 input-long : (c : tie.After-write-input) → length (written-input c) ≡ n c
-input-long c = c .write-input .kept .1 .1 .0 ∙ room (c .before .before)
+input-long c = c .write-input .kept .1 .1 .1 .0 ∙ room (c .before .before)
 
 part : (c : tie.After-write-input) → take (n c) (written-input c ++ drop (n c) zeros) ≡ written-input c
 part c = take-at (written-input c) (drop (n c) zeros) (n c) (input-long c)
@@ -97,7 +102,7 @@ write-payload-requires : tie.Need-write-payload-requires
 write-payload-requires c κs =
     let w = c .before .before .before in
     let z = w .before .before in
-    (known (z .before) .accepts, ap length (part w) ∙ input-long w ∙ z .size .ensures .0)
+    (λ arikan. known (z .before) arikan .accepts, ap length (part w) ∙ input-long w ∙ z .size .ensures .0)
 
 same-length : tie.Need-same-length
 same-length c = search needs
@@ -110,9 +115,9 @@ returns-2 c =
     let e = w .before .before .before in
     let s = start e in
     let out = s .args .payload .now in
-    p .write-payload .ensures
+    p .write-payload .ensures (s .args .arikan)
     ∙ ap (λ (u : List ℕ). payloadOutcome (given s) u out) (part w ∙ w .write-input .ensures)
-    ∙ extract-input (given s) (s .args .word .now) out (sym (e .if1 .left) ∙ e .before .word-refusal .ensures)
+    ∙ extract-input (given s) (s .args .word .now) out (sym (e .if1 .left) ∙ e .before .word-refusal .ensures (s .args .arikan))
 
 pub extract-spec : {M : Type 1} → statement M
 extract-spec =

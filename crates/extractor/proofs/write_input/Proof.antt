@@ -1,7 +1,7 @@
 -- `extractor::write_input` meets its contract: the word is copied, and the copy inverted. Assumes nothing.
 use mathlib.Core.Path.{ap, _∙_}
 use borrow.Author.Needs.{needs}
-use Rattle.spec.specs.Transform.{inverse}
+use Rattle.spec.specs.Transform.{inverseBy}
 use Rattle.extractor.proofs.write_input.Statement.{statement}
 use Rattle.extractor.proofs.write_input.Tie as tie
 
@@ -20,7 +20,8 @@ returns : tie.Need-returns
 returns c =
     let i = c .before .before in
     let w = i .before .before .before .before in
-    i .invert-word .ensures ∙ ap (inverse (w .before .before .before .before .args .m)) (w .copy .ensures)
+    let a = w .before .before .before .before .args in
+    i .invert-word .ensures ∙ ap (inverseBy (a .arikan) (a .m)) (w .copy .ensures)
 
 pub write-input-spec : {M : Type 1} → statement M
 write-input-spec = tie.close (tie.spec copy-requires invert-word-requires same-length returns)

@@ -1,6 +1,7 @@
 -- `extractor::write_payload` meets its contract: at each `return` the tests that were passed and the one that was not, and at
 -- the last the payload with 0 behind it. Assumes nothing.
 use mathlib.Core.Path.{_≡_, sym, ap, subst, _∙_}
+use mathlib.Core.Bool.{Bool, false}
 use mathlib.Core.List.{List}
 use Prim.Native.Nat.{ℕ, _*_, _^_, _≤_}
 use native.Mathlib.Omega.{arith}
@@ -21,66 +22,66 @@ use Rattle.code.specs.Given.{flags-are}
 use Rattle.extractor.proofs.write_payload.Statement.{statement}
 use Rattle.extractor.proofs.write_payload.Tie as tie
 
-abbrev given : tie.Start → Code
-given c = code (c .args .m) (c .args .map .now) (c .args .pairs .now)
+abbrev given : tie.Start → Bool → Code
+given c arikan = code (c .args .m) arikan (c .args .map .now) (c .args .pairs .now)
 
-abbrev table : tie.Start → List Fault
-table c = inputFaults (given c) (c .args .input .now) (length (c .args .payload .now))
+abbrev table : tie.Start → Bool → List Fault
+table c arikan = inputFaults (given c arikan) (c .args .input .now) (length (c .args .payload .now))
 
-flags : (c : tie.Start) → flagsOf (length (c .args .input .now)) (c .args .map .now) ≡ frozen (given c)
-flags c = flags-are (c .args .m) (length (c .args .input .now)) (c .args .map .now) (c .args .pairs .now) (c .pre .1)
+flags : (c : tie.Start) (arikan : Bool) → flagsOf (length (c .args .input .now)) (c .args .map .now) ≡ frozen (given c arikan)
+flags c arikan = flags-are (c .args .m) (length (c .args .input .now)) arikan (c .args .map .now) (c .args .pairs .now) (c .pre .1)
 
 -- the map has a flag for each position of the input
 enough : (c : tie.Start) → length (c .args .input .now) ≤ 8 * length (c .args .map .now)
 enough c =
-    let b : 2 ^ c .args .m ≤ 8 * length (c .args .map .now) = enough-bits (2 ^ c .args .m) (c .args .map .now) (c .pre .0 .bytes) in
+    let b : 2 ^ c .args .m ≤ 8 * length (c .args .map .now) = enough-bits (2 ^ c .args .m) (c .args .map .now) (c .pre .0 false .bytes) in
     let e : length (c .args .input .now) ≡ 2 ^ c .args .m = c .pre .1 in
     omega arith
 
 breaks-rule-requires : tie.Need-breaks-rule-requires
 breaks-rule-requires c κs =
     let s = c .before .before .before .before in
-    (enough s, subst (λ (fs : List ℕ). Ruled fs (s .args .pairs .now)) (sym (flags s)) (s .pre .0 .ruled))
+    (enough s, subst (λ (fs : List ℕ). Ruled fs (s .args .pairs .now)) (sym (flags s false)) (s .pre .0 false .ruled))
 
 abbrev called : tie.After-breaks-rule → tie.Start
 called c = c .before .before .before .before .before
 
-tested : (c : tie.After-breaks-rule) → broken (given (called c)) (called c .args .input .now) ≡ c .breaks-rule .result
+tested : (c : tie.After-breaks-rule) (arikan : Bool) → broken (given (called c) arikan) (called c .args .input .now) ≡ c .breaks-rule .result
 unfolding broken
-tested c =
+tested c arikan =
     let s = called c in
-    sym (c .breaks-rule .ensures (s .args .m) ∙ ap (brokenFrom (given s) (s .args .input .now) 0) (flags s))
+    sym (c .breaks-rule .ensures (s .args .m) arikan ∙ ap (brokenFrom (given s arikan) (s .args .input .now) 0) (flags s arikan))
 
 payload-size-requires : tie.Need-payload-size-requires
-payload-size-requires c κs = let a = called c .pre .0 in (a .high, a .bytes, a .ends)
+payload-size-requires c κs = let a = called c .pre .0 false in (a .high, a .bytes, a .ends)
 
 abbrev start : tie.After-payload-size → tie.Start
 start c = called (c .before)
 
 -- the two tests, over the code
-outside-test : (c : tie.After-payload-size) → broken (given (start c)) (start c .args .input .now) ≡ c .before .breaks-rule .result
+outside-test : (c : tie.After-payload-size) (arikan : Bool) → broken (given (start c) arikan) (start c .args .input .now) ≡ c .before .breaks-rule .result
 outside-test c = tested (c .before)
 
-sized : (c : tie.After-payload-size) → c .payload-size .result ≡ payloadSize (given (start c))
-sized c = c .payload-size .ensures (start c .args .pairs .now)
+sized : (c : tie.After-payload-size) (arikan : Bool) → c .payload-size .result ≡ payloadSize (given (start c) arikan)
+sized c arikan = c .payload-size .ensures arikan (start c .args .pairs .now)
 
-short-test : (c : tie.After-payload-size)
-    → ltb (length (start c .args .payload .now)) (payloadSize (given (start c))) ≡ ltb (length (start c .args .payload .now)) (c .payload-size .result)
-short-test c = ap (ltb (length (start c .args .payload .now))) (sym (sized c))
+short-test : (c : tie.After-payload-size) (arikan : Bool)
+    → ltb (length (start c .args .payload .now)) (payloadSize (given (start c) arikan)) ≡ ltb (length (start c .args .payload .now)) (c .payload-size .result)
+short-test c arikan = ap (ltb (length (start c .args .payload .now))) (sym (sized c arikan))
 
 returns : tie.Need-returns
-returns c =
+returns c arikan =
     let k = c .before in
     let s = start k in
-    payload-refused (given s) (s .args .input .now) (s .args .payload .now) 12
-    (is-first (table s) 12 (here (outside-test k ∙ c .if1 .taken))) (λ z. omega arith)
+    payload-refused (given s arikan) (s .args .input .now) (s .args .payload .now) 12
+    (is-first (table s arikan) 12 (here (outside-test k arikan ∙ c .if1 .taken))) (λ z. omega arith)
 
 returns-2 : tie.Need-returns-2
-returns-2 c =
+returns-2 c arikan =
     let k = c .before .before in
     let s = start k in
-    payload-refused (given s) (s .args .input .now) (s .args .payload .now) 10
-    (is-first (table s) 10 (later (outside-test k ∙ c .before .if1 .left) (here (short-test k ∙ c .if2 .taken)))) (λ z. omega arith)
+    payload-refused (given s arikan) (s .args .input .now) (s .args .payload .now) 10
+    (is-first (table s arikan) 10 (later (outside-test k arikan ∙ c .before .if1 .left) (here (short-test k arikan ∙ c .if2 .taken)))) (λ z. omega arith)
 
 -- the output has room
 fits : (c : tie.Else2) → c .before .before .payload-size .result ≤ length (start (c .before .before) .args .payload .now)
@@ -100,7 +101,7 @@ gather-payload-requires : tie.Need-gather-payload-requires
 gather-payload-requires c κs =
     let l = c .before in
     let s = start (l .before .before) in
-    (enough s, ap clear (flags s) ∙ sym (part l ∙ sized (l .before .before)))
+    (enough s, ap clear (flags s false) ∙ sym (part l ∙ sized (l .before .before) false))
 
 fill-bytes-requires : tie.Need-fill-bytes-requires
 fill-bytes-requires c κs = search needs
@@ -109,7 +110,7 @@ same-length : tie.Need-same-length
 same-length c = search needs
 
 returns-3 : tie.Need-returns-3
-returns-3 c =
+returns-3 c arikan =
     let w = c .before .before .before .before .before .before in
     let l = w .before .before in
     let p = l .before .before in
@@ -119,9 +120,9 @@ returns-3 c =
     ap (written 0)
     (c .before .before .fill-bytes .ensures
     ∙ filled-behind 0 (w .gather-payload .last .1 .1 .0) out k (w .gather-payload .kept .1 .1 .0 ∙ part l) (fits l)
-    ∙ ap (padded 0 (length out)) (w .gather-payload .ensures ∙ ap (λ (fs : List ℕ). gathered fs (s .args .input .now)) (flags s)))
-    ∙ payload-served (given s) (s .args .input .now) out
-    (is-first (table s) 0 (later (outside-test p ∙ l .before .if1 .left) (later (short-test p ∙ l .if2 .left) none)))
+    ∙ ap (padded 0 (length out)) (w .gather-payload .ensures ∙ ap (λ (fs : List ℕ). gathered fs (s .args .input .now)) (flags s arikan)))
+    ∙ payload-served (given s arikan) (s .args .input .now) out
+    (is-first (table s arikan) 0 (later (outside-test p arikan ∙ l .before .if1 .left) (later (short-test p arikan ∙ l .if2 .left) none)))
 
 pub write-payload-spec : {M : Type 1} → statement M
 write-payload-spec =

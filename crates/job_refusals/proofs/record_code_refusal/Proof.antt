@@ -1,5 +1,6 @@
 -- `job_refusals::record_code_refusal` meets its contract: of the conditions of a code all but the first two are left. Assumes nothing.
 use mathlib.Core.Path.{_≡_, _∙_}
+use mathlib.Core.Bool.{Bool}
 use mathlib.Core.List.{List}
 use Prim.Native.Nat.{ℕ, _^_}
 use borrow.Author.Needs.{needs}
@@ -7,7 +8,7 @@ use lib.ListN.{length}
 use Rattle.spec.specs.Code.{code, mapBytes}
 use Rattle.spec.specs.Faults.{first}
 use Rattle.spec.specs.Refusals.{codeFaults}
-use Rattle.spec.specs.Record.{exponent, recordMap, recordCode}
+use Rattle.spec.specs.Record.{exponent, recordMap, isArikan, recordCode}
 use Rattle.laws.specs.FirstFault.{inside, same}
 use Rattle.job_fields.specs.Laid.{Shaped, length-map, map-within, pairs-first, pairs-within, map-part, pairs-part}
 use Rattle.job_refusals.specs.Conditions.{recordCodeFaults}
@@ -19,9 +20,9 @@ unfolding first
 left s w =
     rw (inside 2 10 (exponent s) (w .low) (w .high), same (length (recordMap s)) (mapBytes (2 ^ exponent s)) (length-map w))
 
-same-code : {m m′ : ℕ} {map map′ pairs pairs′ : List ℕ} → m ≡ m′ → map ≡ map′ → pairs ≡ pairs′
-    → first (codeFaults (code m map pairs)) ≡ first (codeFaults (code m′ map′ pairs′))
-same-code a b d = rw (a, b, d)
+same-code : (arikan : Bool) {m m′ : ℕ} {map map′ pairs pairs′ : List ℕ} → m ≡ m′ → map ≡ map′ → pairs ≡ pairs′
+    → first (codeFaults (code m arikan map pairs)) ≡ first (codeFaults (code m′ arikan map′ pairs′))
+same-code arikan a b d = rw (a, b, d)
 
 add-map-end : tie.Need-add-map-end
 add-map-end c = search needs
@@ -54,7 +55,8 @@ returns : tie.Need-returns
 returns c =
     let s = c .before .before .before .before .before in
     let w = s .pre in
-    c .code-refusal .ensures ∙ same-code (w .m-is) (map-part w) (pairs-part w) ∙ left (s .args .bytes .now) (w .shaped)
+    let b = s .args .bytes .now in
+    c .code-refusal .ensures (isArikan b) ∙ same-code (isArikan b) (w .m-is) (map-part w) (pairs-part w) ∙ left b (w .shaped)
 
 pub record-code-refusal-spec : {M : Type 1} → statement M
 record-code-refusal-spec =

@@ -14,8 +14,8 @@ use Rattle.laws.specs.MapBits.{flagsOf, enough-bits}
 use Rattle.code.proofs.shape.code_refusal.Statement.{statement}
 use Rattle.code.proofs.shape.code_refusal.Tie as tie
 
-abbrev given : tie.Start → Code
-given c = code (c .args .m) (c .args .map .now) (c .args .pairs .now)
+abbrev given : tie.Start → Bool → Code
+given c arikan = code (c .args .m) arikan (c .args .map .now) (c .args .pairs .now)
 
 abbrev start : tie.Else2 → tie.Start
 start c = c .before .before .before .before
@@ -25,14 +25,14 @@ ok1 : (c : tie.Else2) → outside 2 10 (start c .args .m) ≡ false
 ok1 c = inside 2 10 _ (c .before .if1 .left) (c .if2 .left)
 
 returns : tie.Need-returns
-returns c =
+returns c arikan =
     let s = c .before .before .before in
-    is-first (codeFaults (given s)) 1 (here (below 2 10 (s .args .m) (c .if1 .taken)))
+    is-first (codeFaults (given s arikan)) 1 (here (below 2 10 (s .args .m) (c .if1 .taken)))
 
 returns-2 : tie.Need-returns-2
-returns-2 c =
+returns-2 c arikan =
     let s = c .before .before .before .before in
-    is-first (codeFaults (given s)) 1 (here (above 2 10 (s .args .m) (c .if2 .taken)))
+    is-first (codeFaults (given s arikan)) 1 (here (above 2 10 (s .args .m) (c .if2 .taken)))
 
 size-requires : tie.Need-size-requires
 size-requires c κs = search needs
@@ -45,10 +45,10 @@ right-length : (c : tie.Else3) → length (start (c .before .before) .args .map 
 right-length c = c .if3 .left ∙ ap mapBytes (c .before .size .ensures .0)
 
 returns-3 : tie.Need-returns-3
-returns-3 c =
+returns-3 c arikan =
     let s = start (c .before .before) in
     let e = c .before .size .ensures .0 in
-    is-first (codeFaults (given s)) 2
+    is-first (codeFaults (given s arikan)) 2
     (later (ok1 (c .before .before)) (here (differ (length (s .args .map .now)) (mapBytes (2 ^ s .args .m)) (λ q. c .if3 .taken (q ∙ ap mapBytes (sym e))))))
 
 past-end-requires : tie.Need-past-end-requires
@@ -66,28 +66,28 @@ pairs-refused-requires c κs =
     omega arith
 
 returns-4 : tie.Need-returns-4
-returns-4 c =
+returns-4 c arikan =
     let p = c .before .before in
     let l = p .before in
     let s = start (l .before .before) in
-    is-first (codeFaults (given s)) 3
+    is-first (codeFaults (given s arikan)) 3
     (later (ok1 (l .before .before)) (later (ok2 l) (here (sym (p .past-end .ensures) ∙ c .if4 .taken))))
 
 -- past 3: the pairs decide
-decided : (c : tie.After-pairs-refused) (b : Bool) → c .pairs-refused .result ≡ b → c .before .past-end .result ≡ false
-    → cond b 15 0 ≡ first (codeFaults (given (start (c .before .before .before .before))))
+decided : (c : tie.After-pairs-refused) (b : Bool) → c .pairs-refused .result ≡ b → c .before .past-end .result ≡ false → (arikan : Bool)
+    → cond b 15 0 ≡ first (codeFaults (given (start (c .before .before .before .before)) arikan))
 unfolding frozen
-decided c b e in-range =
+decided c b e in-range arikan =
     let p = c .before in
     let l = p .before in
     let s = start (l .before .before) in
-    let k : cond b 15 0 ≡ first (pairFaults (frozen (given s)) (s .args .pairs .now))
+    let k : cond b 15 0 ≡ first (pairFaults (frozen (given s arikan)) (s .args .pairs .now))
     = sym (ap (λ (x : Bool). cond x 15 0) e)
     ∙ sym (c .pairs-refused .ensures)
     ∙ ap (λ (n : ℕ). first (pairFaults (flagsOf n (s .args .map .now)) (s .args .pairs .now))) (l .before .size .ensures .0) in
-    is-first (codeFaults (given s)) (cond b 15 0)
+    is-first (codeFaults (given s arikan)) (cond b 15 0)
     (later (ok1 (l .before .before)) (later (ok2 l) (later (sym (p .past-end .ensures) ∙ in-range)
-    (of-first (pairFaults (frozen (given s)) (s .args .pairs .now)) (cond b 15 0) k))))
+    (of-first (pairFaults (frozen (given s arikan)) (s .args .pairs .now)) (cond b 15 0) k))))
 
 returns-5 : tie.Need-returns-5
 returns-5 c = decided (c .before .before) true (c .if5 .taken) (c .before .if4 .left)

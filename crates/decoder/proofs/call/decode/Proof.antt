@@ -24,26 +24,26 @@ returns : tie.Need-returns
 returns c =
     let s = c .before .before .before .before .before .before .before .before in
     let k = c .before .decode-refusal in
-    refused-call (s .args .m) (s .args .l) (s .args .p) (s .args .map .now) (s .args .pairs .now) (s .args .soft .now) (k .result) (given s) (k .ensures) (c .if1 .taken)
+    refused-call (s .args .m) (s .args .arikan) (s .args .l) (s .args .p) (s .args .map .now) (s .args .pairs .now) (s .args .soft .now) (k .result) (given s) (k .ensures (s .args .arikan)) (c .if1 .taken)
 
 size-requires : tie.Need-size-requires
 size-requires c κs =
     let s = c .before .before .before .before .before .before .before .before in
     let k = c .before .decode-refusal in
-    small-exponent (s .args .m) (s .args .l) (s .args .p) (s .args .map .now) (s .args .pairs .now) (s .args .soft .now) (k .result) (room-of s) (k .ensures) (c .if1 .left)
+    small-exponent (s .args .m) (s .args .arikan) (s .args .l) (s .args .p) (s .args .map .now) (s .args .pairs .now) (s .args .soft .now) (k .result) (room-of s) (k .ensures (s .args .arikan)) (c .if1 .left)
 
 times-requires : tie.Need-times-requires
 times-requires c κs =
     let s = c .before .before .before .before .before .before .before .before .before in
     let k = c .before .before .decode-refusal in
-    let f = serve-fits (s .args .m) (s .args .l) (s .args .p) (s .args .map .now) (s .args .pairs .now) (s .args .soft .now) (k .result) (room-of s) (k .ensures) (c .before .if1 .left) (2 ^ s .args .m) (2 ^ s .args .m / 2 * s .args .l) refl refl in
+    let f = serve-fits (s .args .m) (s .args .arikan) (s .args .l) (s .args .p) (s .args .map .now) (s .args .pairs .now) (s .args .soft .now) (k .result) (room-of s) (k .ensures (s .args .arikan)) (c .before .if1 .left) (2 ^ s .args .m) (2 ^ s .args .m / 2 * s .args .l) refl refl in
     (omega (arith, c .size .ensures .1), omega (arith, f .list))
 
 serve-requires : tie.Need-serve-requires
 serve-requires c κs =
     let s = c .before .before .before .before .before .before .before .before .before .before .before .before .before .before .before in
     let k = c .before .before .before .before .before .before .before .before .decode-refusal in
-    serve-fits (s .args .m) (s .args .l) (s .args .p) (s .args .map .now) (s .args .pairs .now) (s .args .soft .now) (k .result) (room-of s) (k .ensures) (c .before .before .before .before .before .before .before .if1 .left) _ _ (c .before .before .before .before .before .before .size .ensures .0) (c .before .before .before .before .before .times .ensures .0)
+    serve-fits (s .args .m) (s .args .arikan) (s .args .l) (s .args .p) (s .args .map .now) (s .args .pairs .now) (s .args .soft .now) (k .result) (room-of s) (k .ensures (s .args .arikan)) (c .before .before .before .before .before .before .before .if1 .left) _ _ (c .before .before .before .before .before .before .size .ensures .0) (c .before .before .before .before .before .times .ensures .0)
 
 same-length : tie.Need-same-length
 same-length c = search needs
@@ -65,7 +65,7 @@ returns-2 c =
     let s = c .before .before .before .before .before .before .before .before .before .before .before .before .before .before .before .before .before .before .before .before .before .before .before .before .before in
     let k = c .before .before .before .before .before .before .before .before .before .before .before .before .before .before .before .before .before .before .decode-refusal in
     let r = c .before .before .before .before .before .before .before .before .before .serve in
-    served-call (s .args .m) (s .args .l) (s .args .p) (s .args .map .now) (s .args .pairs .now) (s .args .soft .now) (k .result) (given s) (k .ensures) (c .before .before .before .before .before .before .before .before .before .before .before .before .before .before .before .before .before .if1 .left) _ (r .ensures)
+    served-call (s .args .m) (s .args .arikan) (s .args .l) (s .args .p) (s .args .map .now) (s .args .pairs .now) (s .args .soft .now) (k .result) (given s) (k .ensures (s .args .arikan)) (c .before .before .before .before .before .before .before .before .before .before .before .before .before .before .before .before .before .if1 .left) _ (r .ensures)
 
 pub decode-spec : {M : Type 1} → statement M
 decode-spec =

@@ -24,12 +24,12 @@ fill-bytes-requires c κs = search needs
 start-requires : tie.Need-start-requires
 start-requires c κs =
     let s = c .before .before .before .before .before .before .before .before .before .before in
-    start-fits (s .args .m) (s .args .l) (s .args .p) (s .args .n) (s .args .h) (s .args .map .now) (s .args .pairs .now) (s .args .soft .now) _ (s .pre) (s .args .t .now) (omega arith)
+    start-fits (s .args .m) (s .args .arikan) (s .args .l) (s .args .p) (s .args .n) (s .args .h) (s .args .map .now) (s .args .pairs .now) (s .args .soft .now) _ (s .pre) (s .args .t .now) (omega arith)
 
 positions-requires : tie.Need-positions-requires
 positions-requires c κs =
     let s = c .before .before .before .before .before .before .before .before .before .before .before .before .before .before .before .before in
-    run-fits (s .args .m) (s .args .l) (s .args .p) (s .args .n) (s .args .h) (s .args .map .now) (s .args .pairs .now) (s .args .soft .now) _ (s .pre) _ _ _ (omega (arith, c .before .before .before .before .before .start .kept .0)) (omega (arith, c .before .before .before .before .before .before .before .before .before .fill-bytes .kept .0)) (omega arith)
+    run-fits (s .args .m) (s .args .arikan) (s .args .l) (s .args .p) (s .args .n) (s .args .h) (s .args .map .now) (s .args .pairs .now) (s .args .soft .now) _ (s .pre) _ _ _ (omega (arith, c .before .before .before .before .before .start .kept .0)) (omega (arith, c .before .before .before .before .before .before .before .before .before .fill-bytes .kept .0)) (omega arith)
 
 same-length : tie.Need-same-length
 same-length c = search needs
@@ -48,8 +48,8 @@ returns c =
     let q = c .before .before .before .before .before .before .positions .ensures in
     record {
       few = q .few;
-      ran = q .ran (code (s .args .m) (s .args .map .now) (s .args .pairs .now)) (taken (s .args .soft .now)) refl refl
-          (record { exponent = exponent (s .args .m) (s .args .l) (s .args .p) (s .args .n) (s .args .h) (s .args .map .now) (s .args .pairs .now) (s .args .soft .now) _ (s .pre); soft = length-taken (s .args .soft .now) ∙ s .pre .long ∙ whole (s .args .m) (s .args .l) (s .args .p) (s .args .n) (s .args .h) (s .args .map .now) (s .args .pairs .now) (s .args .soft .now) _ (s .pre); small = a .small }) a
+      ran = q .ran (code (s .args .m) (s .args .arikan) (s .args .map .now) (s .args .pairs .now)) (taken (s .args .soft .now)) refl refl refl
+          (record { exponent = exponent (s .args .m) (s .args .arikan) (s .args .l) (s .args .p) (s .args .n) (s .args .h) (s .args .map .now) (s .args .pairs .now) (s .args .soft .now) _ (s .pre); soft = length-taken (s .args .soft .now) ∙ s .pre .long ∙ whole (s .args .m) (s .args .arikan) (s .args .l) (s .args .p) (s .args .n) (s .args .h) (s .args .map .now) (s .args .pairs .now) (s .args .soft .now) _ (s .pre); small = a .small }) a
           (λ j. ap (λ (b : List ℕ). getD b j 0) (z .ensures ∙ zeroed (s .args .b .now)) ∙ zeros-at (length (s .args .b .now)) j);
     }
 

@@ -94,7 +94,7 @@ same-length : tie.Need-same-length Inv-loop μ-loop
 same-length c = c .before .loop .inv .long ∙ long (spread-at (c .before))
 
 returns : tie.Need-returns Inv-loop μ-loop
-returns c = λ m e. summing-end (enough (c .before)) (c .before .loop .inv) (c .loop-test .left) m (long (spread-at (c .before)) ∙ e)
+returns c = λ m arikan e. summing-end (enough (c .before)) (c .before .loop .inv) (c .loop-test .left) m arikan (long (spread-at (c .before)) ∙ e)
 
 pub fill-input-spec : {M : Type 1} → statement M
 fill-input-spec =

@@ -18,8 +18,8 @@ Inv-loop map pairs input i₀ at₀ i at =
     (Part at at pairs)
     × (Reached (flagsOf (length input) map) i at pairs)
     × (i ≤ length input)
-    × ((m : ℕ) → brokenFrom (code m map pairs) input 0 (flagsOf (length input) map)
-    ≡ brokenFrom (code m map pairs) input i (drop i (flagsOf (length input) map)))
+    × ((m : ℕ) (arikan : Bool) → brokenFrom (code m arikan map pairs) input 0 (flagsOf (length input) map)
+    ≡ brokenFrom (code m arikan map pairs) input i (drop i (flagsOf (length input) map)))
 
 abbrev μ-loop : tie.MeasureT-loop
 μ-loop map pairs input i₀ at₀ i at = length input - i
@@ -36,8 +36,8 @@ u c = start c .args .input .now
 abbrev fs : At → List ℕ
 fs c = flagsOf (length (u c)) (start c .args .map .now)
 
-abbrev of : At → ℕ → Code
-of c m = code m (start c .args .map .now) (start c .args .pairs .now)
+abbrev of : At → ℕ → Bool → Code
+of c m arikan = code m arikan (start c .args .map .now) (start c .args .pairs .now)
 
 counted : (c : At) → length (fs c) ≡ length (u c)
 counted c = length-flags (length (u c)) (start c .args .map .now) (start c .pre .0)
@@ -46,7 +46,7 @@ loop-holds : tie.Need-loop-holds Inv-loop μ-loop
 loop-holds c =
     let s = c .before .before .before in
     let fs = flagsOf (length (s .args .input .now)) (s .args .map .now) in
-    (part-start (s .pre .1 .whole), reached-start fs (s .args .pairs .now) (s .pre .1), omega arith, λ m. refl)
+    (part-start (s .pre .1 .whole), reached-start fs (s .args .pairs .now) (s .pre .1), omega arith, λ m arikan. refl)
 
 named-requires : tie.Need-named-requires Inv-loop μ-loop
 named-requires c κs = let h = room (c .before .loop .inv .0) (c .loop-test .taken) in omega (arith, h)
@@ -75,15 +75,15 @@ abbrev Looked : Type 0
 Looked = tie.After-run-broken Inv-loop μ-loop
 
 -- what is left behind f, and all of it by the result
-abbrev behind : Looked → ℕ → Bool
-behind c m = let a = at-loop (c .before) in let i = c .before .before .named .result + 1 in brokenFrom (of a m) (u a) i (drop i (fs a))
+abbrev behind : Looked → ℕ → Bool → Bool
+behind c m arikan = let a = at-loop (c .before) in let i = c .before .before .named .result + 1 in brokenFrom (of a m arikan) (u a) i (drop i (fs a))
 
-all : (c : Looked) (m : ℕ) {b : Bool} → c .run-broken .result ≡ b
-    → brokenFrom (of (at-loop (c .before)) m) (u (at-loop (c .before))) 0 (fs (at-loop (c .before))) ≡ (b || behind c m)
-all c m e = at-loop (c .before) .loop .inv .3 m ∙ c .run-broken .ensures m ∙ ap (λ (t : Bool). t || behind c m) e
+all : (c : Looked) (m : ℕ) (arikan : Bool) {b : Bool} → c .run-broken .result ≡ b
+    → brokenFrom (of (at-loop (c .before)) m arikan) (u (at-loop (c .before))) 0 (fs (at-loop (c .before))) ≡ (b || behind c m arikan)
+all c m arikan e = at-loop (c .before) .loop .inv .3 m arikan ∙ c .run-broken .ensures m arikan ∙ ap (λ (t : Bool). t || behind c m arikan) e
 
 returns : tie.Need-returns Inv-loop μ-loop
-returns c = λ m. sym (all (c .before) m (c .if1 .taken))
+returns c = λ m arikan. sym (all (c .before) m arikan (c .if1 .taken))
 
 add-i : tie.Need-add-i Inv-loop μ-loop
 add-i c = omega arith
@@ -99,7 +99,7 @@ loop-again c =
       part-next (run e .part),
       run e .next,
       omega (arith, f .1),
-      λ m. all b m (c .if1 .left),
+      λ m arikan. all b m arikan (c .if1 .left),
     )
 
 frozen-bit-set-requires : tie.Need-frozen-bit-set-requires Inv-loop μ-loop
@@ -110,14 +110,14 @@ or-false true = refl
 or-false false = refl
 
 returns-2 : tie.Need-returns-2 Inv-loop μ-loop
-returns-2 c = λ m.
+returns-2 c = λ m arikan.
     let t = c .before in
     let a = t .before in
     let n = length (u a) in
     let r = c .frozen-bit-set .result in
-    sym (a .loop .inv .3 m
-    ∙ c .frozen-bit-set .ensures (of a m) (unsummed-end (a .loop .inv .1) n (t .loop-test .left))
-    ∙ ap (λ (b : Bool). r || b) (broken-end (of a m) (fs a) (u a) n (omega (arith, counted a)))
+    sym (a .loop .inv .3 m arikan
+    ∙ c .frozen-bit-set .ensures (of a m arikan) (unsummed-end (a .loop .inv .1) n (t .loop-test .left))
+    ∙ ap (λ (b : Bool). r || b) (broken-end (of a m arikan) (fs a) (u a) n (omega (arith, counted a)))
     ∙ or-false r)
 
 pub breaks-rule-spec : {M : Type 1} → statement M

@@ -24,20 +24,20 @@ abbrev start : tie.After-frozen-bit-set → tie.Start
 start c = c .before .before .before .before
 
 -- what is left once the positions before f are looked at
-before : (c : tie.After-frozen-bit-set) (m : ℕ) → let s = start c .args in
-    let k = code m (s .map .now) (s .pairs .now) in
+before : (c : tie.After-frozen-bit-set) (m : ℕ) (arikan : Bool) → let s = start c .args in
+    let k = code m arikan (s .map .now) (s .pairs .now) in
     let fs = flagsOf (length (s .input .now)) (s .map .now) in
     brokenFrom k (s .input .now) (s .from) (drop (s .from) fs) ≡ (c .frozen-bit-set .result || brokenFrom k (s .input .now) (s .f) (drop (s .f) fs))
-before c m =
+before c m arikan =
     let s = start c in
-    c .frozen-bit-set .ensures (code m (s .args .map .now) (s .args .pairs .now)) (s .pre .1 .between)
+    c .frozen-bit-set .ensures (code m arikan (s .args .map .now) (s .args .pairs .now)) (s .pre .1 .between)
 
 returns : tie.Need-returns
-returns c = λ m.
+returns c = λ m arikan.
     let t = c .before in
     let s = start t .args in
-    let k = code m (s .map .now) (s .pairs .now) in
-    before t m
+    let k = code m arikan (s .map .now) (s .pairs .now) in
+    before t m arikan
     ∙ ap (λ (b : Bool). b || brokenFrom k (s .input .now) (s .f) (drop (s .f) (flagsOf (length (s .input .now)) (s .map .now)))) (c .if1 .taken)
 
 shared-slice-read-result : tie.Need-shared-slice-read-result
@@ -48,16 +48,16 @@ frozen-bit-requires c κs = start (c .before .before) .pre .1 .part
 
 returns-2 : tie.Need-returns-2
 unfolding frozenBit
-returns-2 c = λ m.
+returns-2 c = λ m arikan.
     let e = c .before .before in
     let t = e .before in
     let s = start t in
     let a = s .args in
     let u = a .input .now in
     let r = s .pre .1 in
-    let k = code m (a .map .now) (a .pairs .now) in
+    let k = code m arikan (a .map .now) (a .pairs .now) in
     let fs = flagsOf (length u) (a .map .now) in
-    before t m
+    before t m arikan
     ∙ ap (λ (b : Bool). b || brokenFrom k u (a .f) (drop (a .f) fs)) (e .if1 .left)
     ∙ broken-turn fs (a .f) (r .inside) (r .frozen) k u (c .frozen-bit .ensures (r .over u) ∙ r .sum u)
 

@@ -36,8 +36,8 @@ past1 c = later (ne-eqb (length (at-if1 c)) 0 (c .if1 .left))
 
 past2 : {k : ℕ} (c : tie.Else2) → First (from 2 (at-wide (c .before))) k → First (from 0 (at-wide (c .before))) k
 past2 c f =
-    let known : fields (at-wide (c .before)) ≤ 15 = omega (arith, c .before .wide .ensures .0, c .if2 .left) in
-    past1 (c .before .before .before) (later (le-ltb 15 (fields (at-wide (c .before))) known) f)
+    let known : fields (at-wide (c .before)) ≤ 31 = omega (arith, c .before .wide .ensures .0, c .if2 .left) in
+    past1 (c .before .before .before) (later (le-ltb 31 (fields (at-wide (c .before))) known) f)
 
 past3 : {k : ℕ} (c : tie.Else3) → First (from 3 (at-if3 c)) k → First (from 0 (at-if3 c)) k
 past3 c f = past2 (c .before) (later (ne-eqb (length (at-if3 c)) 1 (c .if3 .left)) f)
@@ -63,8 +63,8 @@ wide-requires c κs = search needs
 returns-2 : tie.Need-returns-2
 returns-2 c =
     let s = at-wide (c .before) in
-    let unknown : 15 < fields s = omega (arith, c .before .wide .ensures .0, c .if2 .taken) in
-    refused s {fs = shapeFaults s} (past1 (c .before .before .before) (here (lt-ltb 15 (fields s) unknown))) (omega arith)
+    let unknown : 31 < fields s = omega (arith, c .before .wide .ensures .0, c .if2 .taken) in
+    refused s {fs = shapeFaults s} (past1 (c .before .before .before) (here (lt-ltb 31 (fields s) unknown))) (omega arith)
 
 returns-3 : tie.Need-returns-3
 returns-3 c =

@@ -10,11 +10,11 @@ use Rattle.positions.proofs.block.positions.Statement.{statement}
 use Rattle.positions.proofs.block.positions.Tie as tie
 
 abbrev Inv-loop : tie.InvT-loop
-Inv-loop t₀ b₀ rows₀ map pairs p deep l h n slots₀ s₀ at₀ from₀ kept₀ i₀ t b rows slots s at from kept i =
-    (length rows ≡ length rows₀) × Looping deep l h n p i at from (kept .seen) (kept .held) (length rows) map pairs t₀ b₀ t b slots s
+Inv-loop t₀ b₀ rows₀ map pairs p deep l h n arikan slots₀ s₀ at₀ from₀ kept₀ i₀ t b rows slots s at from kept i =
+    (length rows ≡ length rows₀) × Looping arikan deep l h n p i at from (kept .seen) (kept .held) (length rows) map pairs t₀ b₀ t b slots s
 
 abbrev μ-loop : tie.MeasureT-loop
-μ-loop t₀ b₀ rows₀ map pairs p deep l h n slots₀ s₀ at₀ from₀ kept₀ i₀ t b rows slots s at from kept i = p - i
+μ-loop t₀ b₀ rows₀ map pairs p deep l h n arikan slots₀ s₀ at₀ from₀ kept₀ i₀ t b rows slots s at from kept i = p - i
 
 -- ---- the start of the function, and the turn, from the first call in the loop
 abbrev start : tie.After-run-end Inv-loop μ-loop → tie.Start Inv-loop μ-loop
@@ -34,7 +34,7 @@ loop-holds c =
     let s = c .before .before .before .before .before .before in
     let a = s .args in (
       refl,
-      looping-start (a .deep) (a .l) (a .h) (a .n) (a .p) (length (a .rows .now)) (a .map .now) (a .pairs .now) (a .t .now) (a .b .now) (s .pre) (3 * a .h) (length (a .rows .now)) (replicate 1024 0) (c .start .result)
+      looping-start (a .arikan) (a .deep) (a .l) (a .h) (a .n) (a .p) (length (a .rows .now)) (a .map .now) (a .pairs .now) (a .t .now) (a .b .now) (s .pre) (3 * a .h) (length (a .rows .now)) (replicate 1024 0) (c .start .result)
           refl refl refl (zeros-at 1024) (c .start .ensures .0) (c .start .ensures .1) (c .start .ensures .2),
     )
 
@@ -47,7 +47,7 @@ own-bits-requires c κs =
     let s = start e in
     let a = s .args in
     let k = e .before .before .loop in (
-      own-fits (a .deep) (a .l) (a .h) (a .n) (a .p) (length (a .rows .now)) (a .map .now) (a .pairs .now) (a .t .now) (a .b .now) (s .pre)
+      own-fits (a .arikan) (a .deep) (a .l) (a .h) (a .n) (a .p) (length (a .rows .now)) (a .map .now) (a .pairs .now) (a .t .now) (a .b .now) (s .pre)
           (k .i) (k .at) (k .from) (k .kept .seen) (k .kept .held) (length (k .rows)) (k .t) (k .b) (k .slots) (k .s) (k .inv .1) (inside e),
       e .run-end .ensures .0,
       k .inv .1 .standing .few,
@@ -64,7 +64,7 @@ position-requires c κs =
     let s = start e in
     let a = s .args in
     let k = e .before .before .loop in (
-      position-fits (a .deep) (a .l) (a .h) (a .n) (a .p) (length (a .rows .now)) (a .map .now) (a .pairs .now) (a .t .now) (a .b .now) (s .pre)
+      position-fits (a .arikan) (a .deep) (a .l) (a .h) (a .n) (a .p) (length (a .rows .now)) (a .map .now) (a .pairs .now) (a .t .now) (a .b .now) (s .pre)
           (k .i) (k .at) (k .from) (k .kept .seen) (k .kept .held) (length (k .rows)) (k .t) (k .b) (k .slots) (k .s) (k .inv .1) (inside e) _ (o .own-bits .kept .0),
       k .inv .1 .standing,
     )
@@ -77,7 +77,7 @@ add-at c =
     let k = e .before .before .loop in
     omega (
       arith,
-      next-room (a .deep) (a .l) (a .h) (a .n) (a .p) (length (a .rows .now)) (a .map .now) (a .pairs .now) (a .t .now) (a .b .now) (s .pre)
+      next-room (a .arikan) (a .deep) (a .l) (a .h) (a .n) (a .p) (length (a .rows .now)) (a .map .now) (a .pairs .now) (a .t .now) (a .b .now) (s .pre)
           (k .i) (k .at) (k .from) (k .kept .seen) (k .kept .held) (length (k .rows)) (k .t) (k .b) (k .slots) (k .s) (k .inv .1) (inside e),
     )
 
@@ -102,7 +102,7 @@ loop-again c =
     let w = o .own-bits in
     let m = q .position in (
       w .kept .1 .0 ∙ k .inv .0,
-      looping-more (a .deep) (a .l) (a .h) (a .n) (a .p) (length (a .rows .now)) (a .map .now) (a .pairs .now) (a .t .now) (a .b .now) (s .pre)
+      looping-more (a .arikan) (a .deep) (a .l) (a .h) (a .n) (a .p) (length (a .rows .now)) (a .map .now) (a .pairs .now) (a .t .now) (a .b .now) (s .pre)
           (k .i) (k .at) (k .from) (k .kept .seen) (k .kept .held) (length (k .rows)) (k .t) (k .b) (k .slots) (k .s) (k .inv .1) (inside e)
           (e .run-end .result) (e .run-end .ensures .0) (e .run-end .ensures .1) (w .result .seen) (w .result .held) (w .last .0) _ (w .kept .0) (w .ensures)
           (m .last .0) (m .last .1 .0) (m .last .1 .1 .0) _ (m .result) (w .kept .1 .0) (m .kept .0) (m .kept .1 .0) (m .kept .1 .1 .0)
@@ -122,7 +122,7 @@ returns : tie.Need-returns Inv-loop μ-loop
 returns c =
     let k = c .before in
     let a = k .before .before .before .before .before .before .before .args in
-    looping-end (a .deep) (a .l) (a .h) (a .n) (a .p) (k .loop .i) (k .loop .at) (k .loop .from) (k .loop .kept .seen) (k .loop .kept .held) (length (k .loop .rows)) (a .map .now) (a .pairs .now) (a .t .now) (a .b .now)
+    looping-end (a .arikan) (a .deep) (a .l) (a .h) (a .n) (a .p) (k .loop .i) (k .loop .at) (k .loop .from) (k .loop .kept .seen) (k .loop .kept .held) (length (k .loop .rows)) (a .map .now) (a .pairs .now) (a .t .now) (a .b .now)
     (k .loop .t) (k .loop .b) (k .loop .slots) (k .loop .s) (omega (arith, k .loop .inv .1 .near, c .loop-test .left)) (k .loop .inv .1)
 
 pub positions-spec : {M : Type 1} → statement M

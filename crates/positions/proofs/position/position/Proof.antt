@@ -1,4 +1,5 @@
 use mathlib.Core.Path.{_≡_, sym, _∙_}
+use mathlib.Core.Bool.{Bool}
 use mathlib.Core.List.{List, _++_}
 use Prim.Native.Nat.{ℕ, suc, _*_, _<_}
 use native.Mathlib.Omega.{arith}
@@ -78,7 +79,7 @@ returns c =
       record { few = ch .ensures .position .holds .few; long = ch .ensures .position .holds .counted; named = ad .ensures .0 },
       beside _ (3 * s .args .h) (s .args .at) (s .args .l) (ch .result .count) (s .args .b .now) (st .ensures .b₁) (bb ++ rest) (ch .ensures .position .holds .few) (omega (arith, f .place))
           (st .ensures .noted) (drop-at bb rest (3 * s .args .h) lb ∙ st .ensures .history),
-      λ c′ y em owns run.
+      λ c′ y ea em owns run.
           let hi : s .args .i < 2 ^ suc (suc (s .args .deep)) = omega (arith, f .inside, f .sizes .whole) in
           let chosen = subst (λ (m : List ℕ). Chosen (getD (unpacked m) (s .args .i) 0) (s .args .i) (s .args .l) (s .args .h) (s .args .t .now) (take (3 * s .args .h) (s .args .b .now)) (s .args .slots .now) (s .args .bits .now) (s .args .s) (ch .result)) (sym em) (ch .ensures) in
           let st′ = chosen-step c′ y (s .args .deep) (s .args .l) (s .args .h) (s .args .i) (s .args .s) (ch .result) (s .args .t .now) (s .args .b .now) (s .args .slots .now) run hi (s .args .bits .now) owns chosen in
@@ -86,7 +87,8 @@ returns c =
           running-more c′ y (s .args .deep) (s .args .l) (s .args .h) (s .args .i) (s .args .at) (s .args .s) (ch .result) (s .args .t .now) (s .args .b .now) (s .args .slots .now) (st .last .0) (st .last .1 .0) (ad .last .0) (bb ++ rest) (ad .last .1 .1 .0)
           (f .sizes .list) (s .pre .1 .few) (ch .ensures .position .holds .few) (ch .ensures .position .holds .counted)
           (top-low (s .args .deep) (s .args .l) (s .args .h) (s .args .n) (s .args .i) (s .args .at) (s .args .t .now) (s .args .b .now) (s .args .slots .now) (s .args .map .now) (s .pre .0)) (f .place) hi run st′ lost (st .ensures)
-          (subst (λ (z : List ℕ). Advance (s .args .deep) (s .args .l) (s .args .h) (ch .result .count) (s .args .i) (s .args .t .now) (take (3 * s .args .h) (st .last .0)) (st .last .1 .0) (ad .last .0) z (ad .last .1 .1 .0)) (sym (take-at bb rest (3 * s .args .h) lb)) (ad .ensures .2))
+          (subst (λ (a : Bool). Advance a (s .args .deep) (s .args .l) (s .args .h) (ch .result .count) (s .args .i) (s .args .t .now) (take (3 * s .args .h) (st .last .0)) (st .last .1 .0) (ad .last .0) (take (3 * s .args .h) (bb ++ rest)) (ad .last .1 .1 .0)) (sym ea)
+          (subst (λ (z : List ℕ). Advance (s .args .arikan) (s .args .deep) (s .args .l) (s .args .h) (ch .result .count) (s .args .i) (s .args .t .now) (take (3 * s .args .h) (st .last .0)) (st .last .1 .0) (ad .last .0) z (ad .last .1 .1 .0)) (sym (take-at bb rest (3 * s .args .h) lb)) (ad .ensures .2)))
           (ad .ensures .1) (drop-at bb rest (3 * s .args .h) lb),
     )
 

@@ -1,7 +1,7 @@
 -- `rows::words::put_word` meets its contract: what is transformed is a copy of the input. Assumes nothing.
 use mathlib.Core.Path.{ap, _∙_}
 use borrow.Author.Needs.{needs}
-use Rattle.spec.specs.Transform.{transform}
+use Rattle.spec.specs.Transform.{transformBy}
 use Rattle.rows.proofs.words.put_word.Statement.{statement}
 use Rattle.rows.proofs.words.put_word.Tie as tie
 
@@ -20,7 +20,7 @@ returns : tie.Need-returns
 returns c =
     let t = c .before .before in
     let s = t .before .before .before .before .before .before .before .before in
-    t .transform-word .ensures ∙ ap (transform (s .args .m)) (t .before .before .before .before .copy .ensures)
+    t .transform-word .ensures ∙ ap (transformBy (s .args .arikan) (s .args .m)) (t .before .before .before .before .copy .ensures)
 
 pub put-word-spec : {M : Type 1} → statement M
 put-word-spec = tie.close (tie.spec copy-requires transform-word-requires same-length returns)

@@ -1,5 +1,6 @@
 -- `rows::words::write_words` meets its contract. Assumes nothing.
 use mathlib.Core.Path.{_≡_, sym, _∙_}
+use mathlib.Core.Bool.{Bool}
 use Prim.Native.Nat.{_+_, _-_, _≤_}
 use native.Mathlib.Omega.{arith}
 use borrow.Author.Needs.{needs}
@@ -15,10 +16,10 @@ use Rattle.slices.proofs.fill_bytes.Reads as fill-bytes-reads
 use Rattle.rows.proofs.words.put_word.Reads as put-word-reads
 
 abbrev Inv-loop : tie.InvT-loop
-Inv-loop words₀ inputs m n l count r₀ at₀ words r at = WordsSoFar m n count (length words₀) inputs r at words
+Inv-loop words₀ inputs m arikan n l count r₀ at₀ words r at = WordsSoFar m arikan n count (length words₀) inputs r at words
 
 abbrev μ-loop : tie.MeasureT-loop
-μ-loop words₀ inputs m n l count r₀ at₀ words r at = count - r
+μ-loop words₀ inputs m arikan n l count r₀ at₀ words r at = count - r
 
 -- ---- inside the loop: the start of the function, what its length was, and the next row
 abbrev Turn : Type 0
@@ -27,6 +28,9 @@ Turn = lts.In-loop (fill-bytes-reads.Asked, fill-bytes-reads.Learnt, put-word-re
 abbrev start : Turn → tie.Start Inv-loop μ-loop
 start c = c .before .before .before .before .before .before .before .before
 
+abbrev by : Turn → Bool
+by c = start c .args .arikan
+
 fits : (c : Turn) → (let a = start c .args in WordsFit (a .m) (a .n) (a .l) (a .count) (length (c .before .before .before .before .fill-bytes .last .0)) (a .inputs .now))
 fits c = rw (c .before .before .before .before .fill-bytes .kept .0) (start c .pre)
 
@@ -34,7 +38,7 @@ inside : (c : Turn) → c .before .loop .at + start c .args .n ≤ length (c .be
 inside c = next-inside _ _ _ _ _ (c .before .loop .inv .at-is) (words-room (fits c)) (c .loop-test .taken)
 
 input : (c : Turn) → c .before .loop .at + start c .args .n ≤ length (start c .args .inputs .now)
-input c = input-inside (fits c) (c .before .loop .inv) (c .loop-test .taken)
+input c = input-inside (fits c) (by c) (c .before .loop .inv) (c .loop-test .taken)
 
 width : (c : Turn) → c .before .loop .at + start c .args .n - c .before .loop .at ≡ start c .args .n
 width c = omega arith
@@ -74,8 +78,8 @@ put-word-requires : tie.Need-put-word-requires Inv-loop μ-loop
 put-word-requires c κs =
     let i = c .before .before in
     let so-far = i .before .loop .inv in (
-      row-long (fits i) so-far (i .loop-test .taken) _ (width i) ∙ sym (input-long (fits i) so-far (i .loop-test .taken) _ (width i)),
-      input-word (fits i) so-far (i .loop-test .taken) _ (width i),
+      row-long (fits i) (by i) so-far (i .loop-test .taken) _ (width i) ∙ sym (input-long (fits i) (by i) so-far (i .loop-test .taken) _ (width i)),
+      input-word (fits i) (by i) so-far (i .loop-test .taken) _ (width i),
     )
 
 add-r : tie.Need-add-r Inv-loop μ-loop
@@ -91,7 +95,7 @@ loop-again : tie.Need-loop-again Inv-loop μ-loop
 loop-again c =
     let i = c .before .before .before .before .before in
     let put = c .before .before .put-word in
-    words-more (fits i) (i .before .loop .inv) (i .loop-test .taken) _ (width i) (put .ensures) (put .kept .0)
+    words-more (fits i) (by i) (i .before .loop .inv) (i .loop-test .taken) _ (width i) (put .ensures) (put .kept .0)
 
 same-length : tie.Need-same-length Inv-loop μ-loop
 same-length c = c .before .loop .inv .same ∙ c .before .before .before .before .fill-bytes .kept .0
@@ -99,7 +103,7 @@ same-length c = c .before .loop .inv .same ∙ c .before .before .before .before
 returns : tie.Need-returns Inv-loop μ-loop
 returns c =
     let a = c .before .before .before .before .before .before .before .before .args in
-    rw (c .before .before .before .before .fill-bytes .kept .0) at (words-end (a .m) (a .inputs .now) (omega arith) (c .before .loop .inv))
+    rw (c .before .before .before .before .fill-bytes .kept .0) at (words-end (a .m) (a .arikan) (a .inputs .now) (omega arith) (c .before .loop .inv))
 
 pub write-words-spec : {M : Type 1} → statement M
 write-words-spec =

@@ -40,6 +40,9 @@ least-requires c κs = tt
 array-read-code : tie.Need-array-read-code
 array-read-code c = search needs
 
+array-read-code-2 : tie.Need-array-read-code-2
+array-read-code-2 c = search needs
+
 array-share-prefix-map : tie.Need-array-share-prefix-map
 array-share-prefix-map c = search needs
 
@@ -88,6 +91,7 @@ code-line-spec =
     array-read-least
     least-requires
     array-read-code
+    array-read-code-2
     array-share-prefix-map
     slice-aggregate-code
     array-share-prefix-pairs

@@ -38,7 +38,7 @@ same-length c = search needs
 returns : tie.Need-returns
 returns c =
     let s = c .before .before .before .before .before .before .before .before .before in
-    pair-wrote (now (s .args .b)) (c .before .before .before .before .before .before .blend .last .0)
+    pair-wrote (s .args .arikan) (now (s .args .b)) (c .before .before .before .before .before .before .blend .last .0)
     (c .before .before .blend2 .last .0) (s .args .p) (s .args .q) (s .args .e) (s .args .to) (s .args .w)
     (s .pre .5) (s .pre .6) (c .before .before .before .before .before .before .blend .ensures)
     (c .before .before .blend2 .ensures)

@@ -11,18 +11,18 @@ use Rattle.tables.proofs.bytes.push.Statement.{statement}
 use Rattle.tables.proofs.bytes.push.Tie as tie
 
 abbrev Inv-loop : tie.InvT-loop
-Inv-loop b₀ slots os count w l h f r₀ b r = (r ≤ count)
-    × WroteRows (λ z. pushF w l h b₀ (getD slots (os + z) 0) z) (f + slotStart (2 * w) l 0) (2 * w) r b₀ b
+Inv-loop b₀ slots os count w l h f arikan r₀ b r = (r ≤ count)
+    × WroteRows (λ z. pushF arikan w l h b₀ (getD slots (os + z) 0) z) (f + slotStart (2 * w) l 0) (2 * w) r b₀ b
 
 abbrev μ-loop : tie.MeasureT-loop
-μ-loop b₀ slots os count w l h f r₀ b r = count - r
+μ-loop b₀ slots os count w l h f arikan r₀ b r = count - r
 
 loop-holds : tie.Need-loop-holds Inv-loop μ-loop
 loop-holds c =
     let s = c .before .before in (
       omega arith,
       rows-none
-          (λ z. pushF (s .args .w) (s .args .l) (s .args .h) (now (s .args .b))
+          (λ z. pushF (s .args .arikan) (s .args .w) (s .args .l) (s .args .h) (now (s .args .b))
           (getD (now (s .args .slots)) (s .args .os + z) 0) z)
           (s .args .f + slotStart (2 * s .args .w) (s .args .l) 0)
           (2 * s .args .w) (now (s .args .b)),
@@ -58,7 +58,7 @@ loop-again c =
     let l = c .before .before .before .before .before .before .loop in
     let k : l .r < s .args .count = c .before .before .before .before .before .loop-test .taken in (
       omega arith,
-      push-more (s .args .w) (s .args .l) (s .args .h) (s .args .f) (now (s .args .b)) (l .b)
+      push-more (s .args .arikan) (s .args .w) (s .args .l) (s .args .h) (s .args .f) (now (s .args .b)) (l .b)
           (c .before .before .push-row .last .0) (λ z. getD (now (s .args .slots)) (s .args .os + z) 0) (l .r)
           (s .pre .0 .low) (omega arith) (s .pre .1 .named (l .r) k) (s .pre .3) (l .inv .1)
           (c .before .before .push-row .ensures),

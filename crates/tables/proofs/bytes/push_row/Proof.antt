@@ -60,7 +60,7 @@ returns c =
     let e = t .before in
     let f = e .before in
     let s = f .before .before in
-    push-wrote (s .args .w) (s .args .l) (s .args .h) (s .args .f) (now (s .args .b)) (s .args .o) (s .args .r)
+    push-wrote (s .args .arikan) (s .args .w) (s .args .l) (s .args .h) (s .args .f) (now (s .args .b)) (s .args .o) (s .args .r)
     (f .place-of .result) (e .place .result) (t .place2 .result) (p .pair .last .0) (f .place-of .ensures .is)
     (e .place .ensures .is) (t .place2 .ensures .is) (p .pair .ensures)
 

@@ -11,16 +11,16 @@ use Rattle.tables.proofs.start.first_pass.Statement.{statement}
 use Rattle.tables.proofs.start.first_pass.Tie as tie
 
 abbrev Inv-loop : tie.InvT-loop
-Inv-loop t₀ src dst w i₀ t i = (i ≤ w) × WroteRows (firstF src w t₀) (16 * dst) 16 i t₀ t
+Inv-loop t₀ src dst w arikan i₀ t i = (i ≤ w) × WroteRows (firstF arikan src w t₀) (16 * dst) 16 i t₀ t
 
 abbrev μ-loop : tie.MeasureT-loop
-μ-loop t₀ src dst w i₀ t i = w - i
+μ-loop t₀ src dst w arikan i₀ t i = w - i
 
 loop-holds : tie.Need-loop-holds Inv-loop μ-loop
 loop-holds c =
     let s = c .before in (
       omega arith,
-      rows-none (firstF (s .args .src) (s .args .w) (now (s .args .t))) (16 * s .args .dst) 16
+      rows-none (firstF (s .args .arikan) (s .args .src) (s .args .w) (now (s .args .t))) (16 * s .args .dst) 16
           (now (s .args .t)),
     )
 
@@ -60,10 +60,10 @@ loop-again c =
     let l = c .before .before .before .before .before .loop in
     let T : List ℕ = now (s .args .t) in (
       omega arith,
-      rows-more (firstF (s .args .src) (s .args .w) T) (16 * s .args .dst) 16 T
-          (firstF (s .args .src) (s .args .w) (l .t) (l .i)) (l .i) (16 * (s .args .dst + l .i)) (l .t)
+      rows-more (firstF (s .args .arikan) (s .args .src) (s .args .w) T) (16 * s .args .dst) 16 T
+          (firstF (s .args .arikan) (s .args .src) (s .args .w) (l .t) (l .i)) (l .i) (16 * (s .args .dst + l .i)) (l .t)
           (c .before .before .first-node .last .0) (omega arith) (l .inv .1) (c .before .before .first-node .ensures)
-          (λ m _. first-same (s .args .src) (s .args .w) T (l .t) (λ j h. l .inv .1 .above j (omega arith)) (l .i) m),
+          (λ m _. first-same (s .args .arikan) (s .args .src) (s .args .w) T (l .t) (λ j h. l .inv .1 .above j (omega arith)) (l .i) m),
     )
 
 same-length : tie.Need-same-length Inv-loop μ-loop

@@ -18,16 +18,16 @@ use Rattle.tables.proofs.start.lay_costs.Statement.{statement}
 use Rattle.tables.proofs.start.lay_costs.Tie as tie
 
 abbrev Inv-loop : tie.InvT-loop
-Inv-loop t₀ soft dst q i₀ t i = (i ≤ q) × WroteRows (λ z. F (fourAt (taken soft) q z)) (16 * dst) 16 i t₀ t
+Inv-loop t₀ soft dst q arikan i₀ t i = (i ≤ q) × WroteRows (λ z. F arikan (fourAt (taken soft) q z)) (16 * dst) 16 i t₀ t
 
 abbrev μ-loop : tie.MeasureT-loop
-μ-loop t₀ soft dst q i₀ t i = q - i
+μ-loop t₀ soft dst q arikan i₀ t i = q - i
 
 loop-holds : tie.Need-loop-holds Inv-loop μ-loop
 loop-holds c =
     let s = c .before in (
       omega arith,
-      rows-none (λ z. F (fourAt (taken (now (s .args .soft))) (s .args .q) z)) (16 * s .args .dst) 16
+      rows-none (λ z. F (s .args .arikan) (fourAt (taken (now (s .args .soft))) (s .args .q) z)) (16 * s .args .dst) 16
           (now (s .args .t)),
     )
 
@@ -90,10 +90,10 @@ loop-again c =
     (ap₂ _∷_ (back (v .result) (getD Y (l .i + 3 * q) (pos 0)) (v .ok) (v .ensures))
     (refl {a = []})))) in (
       omega arith,
-      rows-more (λ z. F (fourAt Y q z)) (16 * s .args .dst) 16 (now (s .args .t)) _ (l .i)
+      rows-more (λ z. F (s .args .arikan) (fourAt Y q z)) (16 * s .args .dst) 16 (now (s .args .t)) _ (l .i)
           (16 * (s .args .dst + l .i)) (l .t) (c .before .before .first-costs .last .0) (omega arith) (l .inv .1)
           (c .before .before .first-costs .ensures)
-          (λ m _. ap (λ (y : List ℤ). F y m) e),
+          (λ m _. ap (λ (y : List ℤ). F (s .args .arikan) y m) e),
     )
 
 same-length : tie.Need-same-length Inv-loop μ-loop

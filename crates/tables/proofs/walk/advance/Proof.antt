@@ -19,7 +19,7 @@ turn-requires c κs =
     let k = d .before .before .before in
     let s = k .before .before .before .before in
     let e : length (d .descend .last .0) ≡ length (now (s .args .b)) = search needs in
-    ends-at (s .args .deep) (s .args .l) (s .args .h) (s .args .count) (s .args .n) (s .args .positions)
+    ends-at (s .args .arikan) (s .args .deep) (s .args .l) (s .args .h) (s .args .count) (s .args .n) (s .args .positions)
     (k .reach .result .e) (k .reach .result .w) (k .reach .result .x) (k .reach .result .size) (now (s .args .t))
     (now (s .args .b)) (now (s .args .slots)) (s .pre) (k .reach .ensures .0) (d .descend .last .0) e
     (k .reach .ensures .1)
@@ -31,7 +31,7 @@ ascend-requires c κs =
     let s = k .before .before .before .before in
     let et : length (u .turn .last .0) ≡ length (now (s .args .t)) = search needs in
     let eb : length (u .turn .last .1 .0) ≡ length (now (s .args .b)) = search needs in (
-      climbs (s .args .deep) (s .args .l) (s .args .h) (s .args .count) (s .args .n) (s .args .positions)
+      climbs (s .args .arikan) (s .args .deep) (s .args .l) (s .args .h) (s .args .count) (s .args .n) (s .args .positions)
           (k .reach .result .e) (k .reach .result .w) (k .reach .result .x) (k .reach .result .size)
           (now (s .args .t))
           (now (s .args .b)) (now (s .args .slots)) (s .pre) (k .reach .ensures .0) (u .turn .last .0)
@@ -57,7 +57,7 @@ returns c =
     let s = k .before .before .before .before in (
       v .ascend .ensures .0,
       (λ j q. v .ascend .ensures .1 j q ∙ u .turn .ensures .1 j q),
-      advanced (s .args .deep) (s .args .l) (s .args .h) (s .args .count) (s .args .n) (s .args .positions)
+      advanced (s .args .arikan) (s .args .deep) (s .args .l) (s .args .h) (s .args .count) (s .args .n) (s .args .positions)
           (k .reach .result .e) (k .reach .result .w) (k .reach .result .x) (k .reach .result .size)
           (now (s .args .t)) (now (s .args .b)) (now (s .args .slots)) (s .pre) (k .reach .ensures .0)
           (d .descend .last .0) (u .turn .last .0) (u .turn .last .1 .0) (u .turn .last .1 .1 .0)

@@ -8,16 +8,16 @@ use Rattle.tables.proofs.walk.ascend.Statement.{statement}
 use Rattle.tables.proofs.walk.ascend.Tie as tie
 
 abbrev Inv-loop : tie.InvT-loop
-Inv-loop t₀ b slots₀ n deep e count l h w x size d₀ v₀ p₀ s₀ t slots d v p s
-    = Climbing deep l h count n e t₀ b slots₀ d v p s t slots
+Inv-loop t₀ b slots₀ n deep e count l h w x size arikan d₀ v₀ p₀ s₀ t slots d v p s
+    = Climbing arikan deep l h count n e t₀ b slots₀ d v p s t slots
 
 abbrev μ-loop : tie.MeasureT-loop
-μ-loop t₀ b slots₀ n deep e count l h w x size d₀ v₀ p₀ s₀ t slots d v p s = d
+μ-loop t₀ b slots₀ n deep e count l h w x size arikan d₀ v₀ p₀ s₀ t slots d v p s = d
 
 loop-holds : tie.Need-loop-holds Inv-loop μ-loop
 loop-holds c =
     let s = c .before .before .before in
-    climb-start (s .args .deep) (s .args .l) (s .args .h) (s .args .count) (s .args .n) (s .args .e) (s .args .w)
+    climb-start (s .args .arikan) (s .args .deep) (s .args .l) (s .args .h) (s .args .count) (s .args .n) (s .args .e) (s .args .w)
     (s .args .x) (s .args .size) (now (s .args .t)) (now (s .args .b)) (now (s .args .slots)) (s .pre .0)
     (s .pre .1)
 
@@ -30,7 +30,7 @@ mul-s c =
     let l = c .before .loop in
     omega (
       arith,
-      climb-small (s .args .deep) (s .args .l) (s .args .h) (s .args .count) (s .args .n) (s .args .e)
+      climb-small (s .args .arikan) (s .args .deep) (s .args .l) (s .args .h) (s .args .count) (s .args .n) (s .args .e)
           (s .args .w) (s .args .x) (s .args .size) (now (s .args .t)) (now (s .args .b)) (now (s .args .slots))
           (s .pre .0) (l .d) (l .v) (l .p) (l .s) (l .t) (l .slots) (l .inv) (c .loop-test .taken),
     )
@@ -41,7 +41,7 @@ mul-left c =
     let l = c .before .loop in
     omega (
       arith,
-      climb-small (s .args .deep) (s .args .l) (s .args .h) (s .args .count) (s .args .n) (s .args .e)
+      climb-small (s .args .arikan) (s .args .deep) (s .args .l) (s .args .h) (s .args .count) (s .args .n) (s .args .e)
           (s .args .w) (s .args .x) (s .args .size) (now (s .args .t)) (now (s .args .b)) (now (s .args .slots))
           (s .pre .0) (l .d) (l .v) (l .p) (l .s) (l .t) (l .slots) (l .inv) (c .loop-test .taken),
     )
@@ -52,7 +52,7 @@ add-left c =
     let l = c .before .loop in
     omega (
       arith,
-      climb-small (s .args .deep) (s .args .l) (s .args .h) (s .args .count) (s .args .n) (s .args .e)
+      climb-small (s .args .arikan) (s .args .deep) (s .args .l) (s .args .h) (s .args .count) (s .args .n) (s .args .e)
           (s .args .w) (s .args .x) (s .args .size) (now (s .args .t)) (now (s .args .b)) (now (s .args .slots))
           (s .pre .0) (l .d) (l .v) (l .p) (l .s) (l .t) (l .slots) (l .inv) (c .loop-test .taken),
     )
@@ -63,7 +63,7 @@ sub-left c =
     let l = c .before .loop in
     omega (
       arith,
-      climb-small (s .args .deep) (s .args .l) (s .args .h) (s .args .count) (s .args .n) (s .args .e)
+      climb-small (s .args .arikan) (s .args .deep) (s .args .l) (s .args .h) (s .args .count) (s .args .n) (s .args .e)
           (s .args .w) (s .args .x) (s .args .size) (now (s .args .t)) (now (s .args .b)) (now (s .args .slots))
           (s .pre .0) (l .d) (l .v) (l .p) (l .s) (l .t) (l .slots) (l .inv) (c .loop-test .taken),
     )
@@ -74,7 +74,7 @@ add-after-odd-bit c =
     let l = c .before .before .before .loop in
     omega (
       arith,
-      climb-small (s .args .deep) (s .args .l) (s .args .h) (s .args .count) (s .args .n) (s .args .e)
+      climb-small (s .args .arikan) (s .args .deep) (s .args .l) (s .args .h) (s .args .count) (s .args .n) (s .args .e)
           (s .args .w) (s .args .x) (s .args .size) (now (s .args .t)) (now (s .args .b)) (now (s .args .slots))
           (s .pre .0) (l .d) (l .v) (l .p) (l .s) (l .t) (l .slots) (l .inv) (c .before .before .loop-test .taken),
     )
@@ -87,10 +87,10 @@ rise-requires c κs =
     let s = c .before .before .before .before .before .before .before .before in
     let l = c .before .before .before .before .loop in
     let k = c .before .before .before .loop-test .taken in (
-      climb-fits (s .args .deep) (s .args .l) (s .args .h) (s .args .count) (s .args .n) (s .args .e) (s .args .w)
+      climb-fits (s .args .arikan) (s .args .deep) (s .args .l) (s .args .h) (s .args .count) (s .args .n) (s .args .e) (s .args .w)
           (s .args .x) (s .args .size) (now (s .args .t)) (now (s .args .b)) (now (s .args .slots)) (s .pre .0) (l .d)
           (l .v) (l .p) (l .s) (l .t) (l .slots) (l .inv) k,
-      climb-asks (s .args .deep) (s .args .l) (s .args .h)
+      climb-asks (s .args .arikan) (s .args .deep) (s .args .l) (s .args .h)
           (s .args .count) (s .args .n) (s .args .e) (s .args .w) (s .args .x) (s .args .size) (now (s .args .t))
           (now (s .args .b)) (now (s .args .slots)) (s .pre .0) (l .d) (l .v) (l .p) (l .s) (l .t) (l .slots)
           (l .inv) k,
@@ -103,7 +103,7 @@ mul-p c =
     let l = c .before .before .before .before .before .before .before .before .before .loop in
     omega (
       arith,
-      climb-small (s .args .deep) (s .args .l) (s .args .h) (s .args .count) (s .args .n) (s .args .e)
+      climb-small (s .args .arikan) (s .args .deep) (s .args .l) (s .args .h) (s .args .count) (s .args .n) (s .args .e)
           (s .args .w) (s .args .x) (s .args .size) (now (s .args .t)) (now (s .args .b)) (now (s .args .slots))
           (s .pre .0) (l .d) (l .v) (l .p) (l .s) (l .t) (l .slots) (l .inv)
           (c .before .before .before .before .before .before .before .before .loop-test .taken),
@@ -116,7 +116,7 @@ add-p c =
     let l = c .before .before .before .before .before .before .before .before .before .loop in
     omega (
       arith,
-      climb-small (s .args .deep) (s .args .l) (s .args .h) (s .args .count) (s .args .n) (s .args .e)
+      climb-small (s .args .arikan) (s .args .deep) (s .args .l) (s .args .h) (s .args .count) (s .args .n) (s .args .e)
           (s .args .w) (s .args .x) (s .args .size) (now (s .args .t)) (now (s .args .b)) (now (s .args .slots))
           (s .pre .0) (l .d) (l .v) (l .p) (l .s) (l .t) (l .slots) (l .inv)
           (c .before .before .before .before .before .before .before .before .loop-test .taken),
@@ -132,7 +132,7 @@ loop-again c =
     let k = f .before .before .before in
     let l = k .before .loop in
     let s = k .before .before .before .before .before in
-    climb-more (s .args .deep) (s .args .l) (s .args .h) (s .args .count) (s .args .n) (s .args .e) (s .args .w)
+    climb-more (s .args .arikan) (s .args .deep) (s .args .l) (s .args .h) (s .args .count) (s .args .n) (s .args .e) (s .args .w)
     (s .args .x) (s .args .size) (now (s .args .t)) (now (s .args .b)) (now (s .args .slots)) (s .pre .0) (l .d)
     (l .v) (l .p) (l .s) (l .t) (l .slots) (l .inv) (k .loop-test .taken)
     (f .after-odd-bit .result) (u .rise .last .0) (u .rise .last .1 .1 .0) (f .after-odd-bit .ensures)

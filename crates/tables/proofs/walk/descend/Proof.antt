@@ -11,11 +11,11 @@ use Rattle.tables.proofs.walk.descend.Statement.{statement}
 use Rattle.tables.proofs.walk.descend.Tie as tie
 
 abbrev Inv-loop : tie.InvT-loop
-Inv-loop b₀ slots n deep e count l h d₀ w₀ p₀ b d w p = (d ≤ e) × (w ≡ 2 ^ d) × (p ≡ phase d n)
-    × (length b ≡ length b₀) × Descent deep l h count n d slots b₀ b
+Inv-loop b₀ slots n deep e count l h arikan d₀ w₀ p₀ b d w p = (d ≤ e) × (w ≡ 2 ^ d) × (p ≡ phase d n)
+    × (length b ≡ length b₀) × Descent arikan deep l h count n d slots b₀ b
 
 abbrev μ-loop : tie.MeasureT-loop
-μ-loop b₀ slots n deep e count l h d₀ w₀ p₀ b d w p = e - d
+μ-loop b₀ slots n deep e count l h arikan d₀ w₀ p₀ b d w p = e - d
 
 loop-holds : tie.Need-loop-holds Inv-loop μ-loop
 loop-holds c = (omega arith, refl, refl, refl, λ t b₀ p g. g)
@@ -41,7 +41,7 @@ push-requires c κs =
     let s = c .before .before .before .before .before .before in
     let l = c .before .before .before .loop in
     let k : l .d < s .args .e = c .before .before .loop-test .taken in (
-      fits (s .args .deep) (s .args .l) (s .args .h) (s .args .count) (s .args .n) (s .args .e) (now (s .args .b))
+      fits (s .args .arikan) (s .args .deep) (s .args .l) (s .args .h) (s .args .count) (s .args .n) (s .args .e) (now (s .args .b))
           (l .b) (now (s .args .slots)) (l .d) (l .w) (s .pre .0) k (l .inv .1) (l .inv .3),
       s .pre .0 .odds (l .d) (omega (arith, s .pre .0 .far)),
       s .pre .0 .few,
@@ -54,7 +54,7 @@ mul-w c =
     let l = c .before .before .before .before .before .before .loop in
     let k : l .d < s .args .e = c .before .before .before .before .before .loop-test .taken in
     let m : 2 * l .w ≤ 1024
-    = fits (s .args .deep) (s .args .l) (s .args .h) (s .args .count) (s .args .n) (s .args .e)
+    = fits (s .args .arikan) (s .args .deep) (s .args .l) (s .args .h) (s .args .count) (s .args .n) (s .args .e)
     (now (s .args .b)) (l .b) (now (s .args .slots)) (l .d) (l .w) (s .pre .0) k (l .inv .1) (l .inv .3) .wide in
     search needs
 
@@ -74,7 +74,7 @@ loop-again c =
       omega (arith, l .inv .1, pow-next (l .d)),
       phase-next (l .d) (s .args .n) (l .p) (l .inv .2),
       a .same ∙ l .inv .3,
-      descend-more (s .args .deep) (s .args .l) (s .args .h) (s .args .count) (s .args .n) (s .args .e)
+      descend-more (s .args .arikan) (s .args .deep) (s .args .l) (s .args .h) (s .args .count) (s .args .n) (s .args .e)
           (now (s .args .b)) (l .b) (c .before .before .push .last .0) (now (s .args .slots)) (l .d) (l .w) (l .p)
           (c .before .before .before .field .result) (s .pre .0) k (l .inv .1) (l .inv .2)
           (c .before .before .before .field .ensures) (l .inv .4) a,

@@ -9,7 +9,7 @@ use Rattle.tables.proofs.walk.turn.Tie as tie
 turn-odd-requires : tie.Need-turn-odd-requires
 turn-odd-requires c κs =
     let s = c .before .before .before .before .before .before in
-    odd-asks (s .args .deep) (s .args .l) (s .args .h) (s .args .count) (s .args .n) (s .args .e) (s .args .w)
+    odd-asks (s .args .arikan) (s .args .deep) (s .args .l) (s .args .h) (s .args .count) (s .args .n) (s .args .e) (s .args .w)
     (s .args .x) (s .args .size) (now (s .args .t)) (now (s .args .b)) (now (s .args .slots)) (s .pre)
 
 same-length : tie.Need-same-length
@@ -23,7 +23,7 @@ returns c =
     let u = c .before .before .before .before in
     let f = u .before .before .before in
     let s = f .before .before .before .before in
-    end-odd (s .args .deep) (s .args .l) (s .args .h) (s .args .count) (s .args .n) (s .args .e) (s .args .w)
+    end-odd (s .args .arikan) (s .args .deep) (s .args .l) (s .args .h) (s .args .count) (s .args .n) (s .args .e) (s .args .w)
     (s .args .x) (s .args .size) (now (s .args .t)) (now (s .args .b)) (now (s .args .slots)) (s .pre)
     (u .turn-odd .last .0) (u .turn-odd .last .1 .0) (omega (arith, f .if1 .taken)) (u .turn-odd .ensures .0)
     (u .turn-odd .ensures .1)
@@ -35,7 +35,7 @@ turn-ground-requires : tie.Need-turn-ground-requires
 turn-ground-requires c κs =
     let f = c .before .before .before .before in
     let s = f .before .before .before .before .before in
-    ground-asks (s .args .deep) (s .args .l) (s .args .h) (s .args .count) (s .args .n) (s .args .e) (s .args .w)
+    ground-asks (s .args .arikan) (s .args .deep) (s .args .l) (s .args .h) (s .args .count) (s .args .n) (s .args .e) (s .args .w)
     (s .args .x) (s .args .size) (now (s .args .t)) (now (s .args .b)) (now (s .args .slots)) (s .pre)
     (omega (arith, f .if2 .taken))
 
@@ -55,7 +55,7 @@ returns-2 c =
     let f = z .before .before .before .before in
     let g = f .before in
     let s = g .before .before .before .before in
-    end-ground (s .args .deep) (s .args .l) (s .args .h) (s .args .count) (s .args .n) (s .args .e) (s .args .w)
+    end-ground (s .args .arikan) (s .args .deep) (s .args .l) (s .args .h) (s .args .count) (s .args .n) (s .args .e) (s .args .w)
     (s .args .x) (s .args .size) (now (s .args .t)) (now (s .args .b)) (now (s .args .slots))
     (u .turn-ground .last .0) (u .turn-ground .last .1 .1 .0) (z .is-two .result) (s .pre)
     (omega (arith, f .if2 .taken)) (λ e. omega (arith, g .if1 .left))
@@ -64,14 +64,14 @@ returns-2 c =
 sub-rise : tie.Need-sub-rise
 sub-rise c =
     let s = c .before .before .before .before .before .before .before .before in
-    size-some (s .args .deep) (s .args .l) (s .args .h) (s .args .count) (s .args .n) (s .args .e) (s .args .w)
+    size-some (s .args .arikan) (s .args .deep) (s .args .l) (s .args .h) (s .args .count) (s .args .n) (s .args .e) (s .args .w)
     (s .args .x) (s .args .size) (now (s .args .t)) (now (s .args .b)) (now (s .args .slots)) (s .pre) .1
 
 rise-requires : tie.Need-rise-requires
 rise-requires c κs =
     let f = c .before .before .before in
     let s = f .before .before .before .before .before in
-    first-asks (s .args .deep) (s .args .l) (s .args .h) (s .args .count) (s .args .n) (s .args .e) (s .args .w)
+    first-asks (s .args .arikan) (s .args .deep) (s .args .l) (s .args .h) (s .args .count) (s .args .n) (s .args .e) (s .args .w)
     (s .args .x) (s .args .size) (now (s .args .t)) (now (s .args .b)) (now (s .args .slots)) (s .pre)
     (omega (arith, f .if2 .left, s .pre .climbs .far))
 
@@ -90,7 +90,7 @@ returns-3 c =
     let f = u .before .before .before .before in
     let g = f .before in
     let s = g .before .before .before .before in
-    end-first (s .args .deep) (s .args .l) (s .args .h) (s .args .count) (s .args .n) (s .args .e) (s .args .w)
+    end-first (s .args .arikan) (s .args .deep) (s .args .l) (s .args .h) (s .args .count) (s .args .n) (s .args .e) (s .args .w)
     (s .args .x) (s .args .size) (now (s .args .t)) (now (s .args .b)) (now (s .args .slots)) (s .pre)
     (u .rise .last .0) (u .rise .last .1 .1 .0) (λ e. omega (arith, g .if1 .left))
     (omega (arith, f .if2 .left, s .pre .climbs .far)) (u .rise .ensures .0) (u .rise .ensures .1)

@@ -11,19 +11,19 @@ use Rattle.tables.proofs.words.layer.Statement.{statement}
 use Rattle.tables.proofs.words.layer.Tie as tie
 
 abbrev Inv-loop : tie.InvT-loop
-Inv-loop t₀ b slots ws os count w l h n even r₀ t r = (r ≤ count)
-    × WroteRows (λ z. flat16 (rowF even n w l h b t₀ (getD slots (ws + z) 0) (getD slots (os + z) 0) z))
+Inv-loop t₀ b slots ws os count w l h n even arikan r₀ t r = (r ≤ count)
+    × WroteRows (λ z. flat16 (rowF arikan even n w l h b t₀ (getD slots (ws + z) 0) (getD slots (os + z) 0) z))
     (16 * slotStart w l 0) (16 * w) r t₀ t
 
 abbrev μ-loop : tie.MeasureT-loop
-μ-loop t₀ b slots ws os count w l h n even r₀ t r = count - r
+μ-loop t₀ b slots ws os count w l h n even arikan r₀ t r = count - r
 
 loop-holds : tie.Need-loop-holds Inv-loop μ-loop
 loop-holds c =
     let s = c .before .before .before in (
       omega arith,
       rows-none
-          (λ z. flat16 (rowF (s .args .even) (s .args .left) (s .args .w) (s .args .l) (s .args .h) (now (s .args .b))
+          (λ z. flat16 (rowF (s .args .arikan) (s .args .even) (s .args .left) (s .args .w) (s .args .l) (s .args .h) (now (s .args .b))
           (now (s .args .t)) (getD (now (s .args .slots)) (s .args .ws + z) 0)
           (getD (now (s .args .slots)) (s .args .os + z) 0) z)) (16 * slotStart (s .args .w) (s .args .l) 0)
           (16 * s .args .w) (now (s .args .t)),
@@ -66,7 +66,7 @@ loop-again c =
     let l = c .before .before .before .before .before .before .before .loop in
     let k : l .r < s .args .count = c .before .before .before .before .before .before .loop-test .taken in (
       omega arith,
-      layer-more (s .args .even) (s .args .left) (s .args .w) (s .args .l) (s .args .h) (now (s .args .b))
+      layer-more (s .args .arikan) (s .args .even) (s .args .left) (s .args .w) (s .args .l) (s .args .h) (now (s .args .b))
           (now (s .args .t)) (λ z. getD (now (s .args .slots)) (s .args .ws + z) 0)
           (λ z. getD (now (s .args .slots)) (s .args .os + z) 0)
           (l .r) (l .t) (c .before .before .row .last .0) (omega arith) (l .inv .1) (c .before .before .row .ensures),

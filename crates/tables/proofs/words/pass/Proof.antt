@@ -3,25 +3,25 @@ use mathlib.Core.List.{List}
 use Prim.Native.Nat.{ℕ, _+_, _-_, _*_, _≤_}
 use native.Mathlib.Omega.{arith}
 use denote.Ref.{now}
-use Rattle.tables.specs.Tab.{WroteRows, lifted}
-use Rattle.tables.proofs.Passes.{lifted-same}
+use Rattle.tables.specs.Tab.{WroteRows, plainF}
+use Rattle.tables.proofs.Passes.{plain-same}
 use Rattle.tables.proofs.Rows.{rows-more, rows-none}
 use Rattle.tables.proofs.words.pass.Statement.{statement}
 use Rattle.tables.proofs.words.pass.Tie as tie
 
 abbrev Inv-loop : tie.InvT-loop
-Inv-loop t₀ b src dst w odds evens n even i₀ t i = (i ≤ w)
-    × WroteRows (lifted even n src w odds evens b t₀) (16 * dst) 16 i t₀ t
+Inv-loop t₀ b src dst w odds evens even i₀ t i = (i ≤ w)
+    × WroteRows (plainF even src w odds evens b t₀) (16 * dst) 16 i t₀ t
 
 abbrev μ-loop : tie.MeasureT-loop
-μ-loop t₀ b src dst w odds evens n even i₀ t i = w - i
+μ-loop t₀ b src dst w odds evens even i₀ t i = w - i
 
 loop-holds : tie.Need-loop-holds Inv-loop μ-loop
 loop-holds c =
     let s = c .before .before in (
       omega arith,
       rows-none
-          (lifted (s .args .even) (s .args .left) (s .args .src) (s .args .w) (s .args .odds) (s .args .evens)
+          (plainF (s .args .even) (s .args .src) (s .args .w) (s .args .odds) (s .args .evens)
           (now (s .args .b)) (now (s .args .t))) (16 * s .args .dst) 16 (now (s .args .t)),
     )
 
@@ -81,13 +81,13 @@ loop-again c =
     let s = c .before .before .before .before .before .before .before .before .before .before .before in
     let l = c .before .before .before .before .before .before .before .before .loop in
     let F : List ℕ → ℕ → ℕ
-    → ℕ = lifted (s .args .even) (s .args .left) (s .args .src) (s .args .w) (s .args .odds) (s .args .evens)
+    → ℕ = plainF (s .args .even) (s .args .src) (s .args .w) (s .args .odds) (s .args .evens)
     (now (s .args .b)) in (
       omega arith,
       rows-more (F (now (s .args .t))) (16 * s .args .dst) 16 (now (s .args .t)) (F (l .t) (l .i)) (l .i)
           (16 * (s .args .dst + l .i)) (l .t) (c .before .before .node .last .0) (omega arith) (l .inv .1)
           (c .before .before .node .ensures)
-          (λ m _. lifted-same (s .args .even) (s .args .left) (s .args .src) (s .args .w) (s .args .odds)
+          (λ m _. plain-same (s .args .even) (s .args .src) (s .args .w) (s .args .odds)
           (s .args .evens) (now (s .args .b)) (now (s .args .t)) (l .t) (λ j h. l .inv .1 .above j (omega arith))
           (l .i) m),
     )

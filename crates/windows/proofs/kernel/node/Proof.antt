@@ -1,11 +1,12 @@
 use mathlib.Core.Path.{ap, _∙_}
+use mathlib.Core.Bool.{false}
 use mathlib.Core.List.{List}
 use Prim.Native.Nat.{_%_, ℕ, _-_}
 use native.Mathlib.Omega.{arith}
 use denote.Ref.{now}
 use borrow.Author.Needs.{needs}
 use Rattle.windows.specs.declared.window.Eight.{Eight}
-use Rattle.windows.specs.Op.{wrapOf, readB, entry, eight, sixteen, flipped, masked}
+use Rattle.windows.specs.Op.{wrapOf, readB, entry, eight, sixteen, flipped}
 use Rattle.windows.proofs.Operator.{node-wrote}
 use Rattle.windows.proofs.kernel.node.Statement.{statement}
 use Rattle.windows.proofs.kernel.node.Tie as tie
@@ -35,15 +36,13 @@ returns c =
     let a = c .before .before .before .before .before .before .before .read .ensures in
     let r =
     c .before .before .before .lift .ensures
-    ∙ ap (λ (y : Eight). masked (s .args .left)
-    (sixteen (wrapOf (entry (flipped (s .args .e % 2) y))
-    (entry (c .before .before .before .before .before .read2 .result)) 0))) a
-    ∙ ap (λ (y : Eight). masked (s .args .left)
-    (sixteen (wrapOf (entry (flipped (s .args .e % 2) (eight A))) (entry y) 0))) b
+    ∙ ap (λ (y : Eight). sixteen (wrapOf false (entry (flipped (s .args .e % 2) y))
+    (entry (c .before .before .before .before .before .read2 .result)) 0)) a
+    ∙ ap (λ (y : Eight). sixteen (wrapOf false (entry (flipped (s .args .e % 2) (eight A))) (entry y) 0)) b
     in
-    node-wrote (s .args .even) (s .args .left) (s .args .e % 2) (s .args .oa % 2) (s .args .ob % 2) (s .args .pa)
-    (s .args .pb) (s .args .to) T (c .before .before .store .last .0) (s .pre .3) (omega arith)
-    (c .before .before .before .lift .result) r (c .before .before .store .ensures)
+    node-wrote (s .args .even) (s .args .e % 2) (s .args .oa % 2) (s .args .ob % 2) (s .args .pa) (s .args .pb) (s .args .to) T
+    (c .before .before .store .last .0) (omega arith) (c .before .before .before .lift .result) r
+    (c .before .before .store .ensures)
 
 pub node-spec : {M : Type 1} → statement M
 node-spec =
