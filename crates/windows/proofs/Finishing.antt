@@ -11,7 +11,7 @@ use Rattle.laws.specs.Windows.{mask4, at4}
 use Rattle.laws.specs.Nodes.{Kind}
 use Rattle.laws.specs.Cells.{Cell, read3}
 use Rattle.windows.specs.declared.window.Sixteen.{Sixteen}
-use Rattle.windows.specs.Op.{op4w, sixteen, listed, untiedOf, untiedAt, inside, masked, lift32, plain32, source, Wrote}
+use Rattle.windows.specs.Op.{op4w, sixteen, listed, orderedOf, orderAt, inside, masked, lift32, plain32, source, Wrote}
 use Rattle.windows.proofs.Records.{listed-at}
 use Rattle.windows.proofs.Runs.{wrote-by}
 
@@ -66,25 +66,25 @@ masked-full (suc (suc (suc zero))) s p q = absurd (q refl)
 masked-full (suc (suc (suc (suc n)))) s p q = refl
 
 -- ---- the order of the transform
-ordered : (arikan : Bool) (f : ℕ → ℕ) → untiedOf arikan (sixteen f) ≡ sixteen (λ x. f (untiedAt arikan x))
-ordered true f = refl
-ordered false f = refl
+order-of : (arikan : Bool) (f : ℕ → ℕ) → orderedOf arikan (sixteen f) ≡ sixteen (λ x. f (orderAt arikan x))
+order-of true f = refl
+order-of false f = refl
 
 pub finish-wrote : (arikan : Bool) (left to : ℕ) (t t′ : List ℕ) (s : Sixteen)
-    → s ≡ masked left (untiedOf arikan (sixteen (λ x. getD t (to + x) 0))) → Wrote (λ x. getD (listed s) x 0) to 16 t t′
+    → s ≡ masked left (orderedOf arikan (sixteen (λ x. getD t (to + x) 0))) → Wrote (λ x. getD (listed s) x 0) to 16 t t′
     → Wrote (λ x. getD t (to + source arikan left x) 0) to 16 t t′
 finish-wrote arikan left to t t′ s e =
     let f : ℕ → ℕ = λ x. getD t (to + x) 0 in
-    let g : ℕ → ℕ = λ x. f (untiedAt arikan x) in
+    let g : ℕ → ℕ = λ x. f (orderAt arikan x) in
     wrote-by (λ x. getD (listed s) x 0) (λ x. f (source arikan left x)) to 16 t t′
-    (λ x l. ap (λ (s : Sixteen). getD (listed s) x 0) (e ∙ ap (masked left) (ordered arikan f))
+    (λ x l. ap (λ (s : Sixteen). getD (listed s) x 0) (e ∙ ap (masked left) (order-of arikan f))
     ∙ listed-at (λ (z : ℕ). getD (listed (sixteen g)) (inside left z) 0) x l
     ∙ listed-at g (inside left x) (inside-lt left x l))
 
-tied-at : (arikan : Bool) (f g : ℕ → ℕ → ℕ → ℕ) (e : ℕ)
-    → sixteen (λ x. at4 (op4w false f g e) (untiedAt arikan x)) ≡ sixteen (at4 (op4w arikan f g e))
-tied-at true f g e = refl
-tied-at false f g e = refl
+order-at : (arikan : Bool) (f g : ℕ → ℕ → ℕ → ℕ) (e : ℕ)
+    → sixteen (λ x. at4 (op4w false f g e) (orderAt arikan x)) ≡ sixteen (at4 (op4w arikan f g e))
+order-at true f g e = refl
+order-at false f g e = refl
 
 pub source-lt : (arikan : Bool) (left x : ℕ) → x < 16 → source arikan left x < 16
 source-lt false left x l = inside-lt left x l
@@ -95,10 +95,10 @@ source-lt true left x l =
 pub lift-source : (arikan : Bool) (left : ℕ) (k : Kind) (ca cb : Cell) (e x : ℕ) → left % 2 ≡ 1 → x < 16
     → plain32 k ca cb e (source arikan left x) ≡ lift32 arikan left k ca cb e x
 lift-source arikan left k ca cb e x hn l =
-    let f : ℕ → ℕ = λ y. at4 (op4w false (read3 k ca) (read3 k cb) e) (untiedAt arikan y) in
+    let f : ℕ → ℕ = λ y. at4 (op4w false (read3 k ca) (read3 k cb) e) (orderAt arikan y) in
     let o : ℕ → ℕ → ℕ → ℕ → ℕ = op4w arikan (read3 k ca) (read3 k cb) e in
     let h : inside left x < 16 = inside-lt left x l in
     sym (listed-at f (inside left x) h)
-    ∙ ap (λ (s : Sixteen). getD (listed s) (inside left x) 0) (tied-at arikan (read3 k ca) (read3 k cb) e)
+    ∙ ap (λ (s : Sixteen). getD (listed s) (inside left x) 0) (order-at arikan (read3 k ca) (read3 k cb) e)
     ∙ listed-at (at4 o) (inside left x) h
     ∙ mask-is left o hn x l

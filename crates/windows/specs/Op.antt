@@ -82,8 +82,8 @@ unfoldable pub wrapOf : Bool → (ℕ → ℕ) → (ℕ → ℕ) → ℕ → ℕ
 wrapOf arikan A B e = at4 (op4w arikan (three A) (three B) e)
 
 -- a window of Arikan's transform from the other's: x₁ stands for x₁ + x₂, and x₃ for x₃ + x₄
-abbrev pub untiedOf : Bool → Sixteen → Sixteen
-untiedOf true s = record {
+abbrev pub orderedOf : Bool → Sixteen → Sixteen
+orderedOf true s = record {
   x0 = s .x0;
   x1 = s .x1;
   x2 = s .x3;
@@ -101,16 +101,16 @@ untiedOf true s = record {
   x14 = s .x11;
   x15 = s .x10;
 }
-untiedOf false s = s
+orderedOf false s = s
 
 -- that order by its bits
-abbrev pub untiedAt : Bool → ℕ → ℕ
-untiedAt true x = at4 (λ x₁ x₂ x₃ x₄. pack4 (x₁ ⊕ x₂) x₂ (x₃ ⊕ x₄) x₄) x
-untiedAt false x = x
+abbrev pub orderAt : Bool → ℕ → ℕ
+orderAt true x = at4 (λ x₁ x₂ x₃ x₄. pack4 (x₁ ⊕ x₂) x₂ (x₃ ⊕ x₄) x₄) x
+orderAt false x = x
 
 -- the costs of the bottom's words: u₁ stands for u₁ + u₂
-abbrev pub rebasedOf : Bool → Sixteen → Sixteen
-rebasedOf true s = record {
+abbrev pub bottomOrderedOf : Bool → Sixteen → Sixteen
+bottomOrderedOf true s = record {
   x0 = s .x0;
   x1 = s .x1;
   x2 = s .x2;
@@ -128,7 +128,7 @@ rebasedOf true s = record {
   x14 = s .x12;
   x15 = s .x13;
 }
-rebasedOf false s = s
+bottomOrderedOf false s = s
 
 -- a's costs, where e is 1 each in the other's place of the first bit
 abbrev pub flipped : ℕ → Eight → Eight
@@ -180,7 +180,7 @@ plain32 k ca cb e = at4 (op4w false (read3 k ca) (read3 k cb) e)
 
 -- where its cost at x stands among them
 abbrev pub source : Bool → ℕ → ℕ → ℕ
-source arikan r x = untiedAt arikan (inside r x)
+source arikan r x = orderAt arikan (inside r x)
 
 -- ---- the bottom layer: a window picked from the sixteen costs at p, z being the decided bits
 abbrev pub bottomF : Bool → List ℕ → ℕ → ℕ → ℕ → ℕ

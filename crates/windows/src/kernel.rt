@@ -4,7 +4,7 @@ ghost use mathlib.Core.Bool.{false};
 ghost use Prim.Native.Nat.{_+_, _%_, _≤_, _^_, min};
 ghost use mathlib.Core.List.{[], _∷_};
 ghost use lib.ListN.{length, getD};
-ghost use Rattle.windows.specs.Op.{wrapOf, entry, sixteen, untiedOf, flipped, kindB, tabAt, plain32, source, Wrote};
+ghost use Rattle.windows.specs.Op.{wrapOf, entry, sixteen, orderedOf, flipped, kindB, tabAt, plain32, source, Wrote};
 use crate::ends::ends;
 use crate::table::read;
 use crate::table::store;
@@ -45,7 +45,7 @@ pub(crate) fn flip(a: Eight, e: u8) -> Eight
 
 // The convolutional operator where that bit is 0: of the children's bits a0 a1 a2 and b0 b1 b2 the last
 // is free.
-fn tied(a: Eight, b: Eight) -> Sixteen
+fn convolved(a: Eight, b: Eight) -> Sixteen
     ensures { λ r. ⌜ r ≡ sixteen (wrapOf false (entry a) (entry b) 0) ⌝ }
 {
     Sixteen {
@@ -68,9 +68,9 @@ fn tied(a: Eight, b: Eight) -> Sixteen
     }
 }
 
-// Arikan's operator has the same costs in another order.
-fn untied(s: Sixteen, arikan: bool) -> Sixteen
-    ensures { λ r. ⌜ r ≡ untiedOf arikan s ⌝ }
+// A window in the order of the code's transform: Arikan's operator has the same costs in another one.
+fn ordered(s: Sixteen, arikan: bool) -> Sixteen
+    ensures { λ r. ⌜ r ≡ orderedOf arikan s ⌝ }
 {
     if arikan {
         return Sixteen {
@@ -99,13 +99,13 @@ fn untied(s: Sixteen, arikan: bool) -> Sixteen
 pub(crate) fn combine(a: Eight, b: Eight, arikan: bool) -> Sixteen
     ensures { λ r. ⌜ r ≡ sixteen (wrapOf arikan (entry a) (entry b) 0) ⌝ }
 {
-    untied(tied(a, b), arikan)
+    ordered(convolved(a, b), arikan)
 }
 
 fn lift(a: Eight, b: Eight, e: u8) -> Sixteen
     ensures { λ r. ⌜ r ≡ sixteen (wrapOf false (entry (flipped (e % 2) a)) (entry b) 0) ⌝ }
 {
-    tied(flip(a, e), b)
+    convolved(flip(a, e), b)
 }
 
 // What the convolutional operator makes of a node's children, whose windows are at pa and pb, read at
@@ -128,5 +128,5 @@ pub fn finish(t: &mut [u32], to: usize, left: usize, arikan: bool)
     ensures { λ _. ⌜ Wrote (λ x. getD (now (t .entry)) (to + source arikan left x) 0) to 16
         (now (t .entry)) (now (t .exit)) ⌝ }
 {
-    store(t, to, ends(untied(window_at(t, to), arikan), left));
+    store(t, to, ends(ordered(window_at(t, to), arikan), left));
 }

@@ -1,7 +1,7 @@
 use mathlib.Core.Path.{ap, _∙_}
 use denote.Ref.{now}
 use borrow.Author.Needs.{needs}
-use Rattle.windows.specs.Op.{untiedOf, masked}
+use Rattle.windows.specs.Op.{orderedOf, masked}
 use Rattle.windows.proofs.Finishing.{finish-wrote}
 use Rattle.windows.proofs.kernel.finish.Statement.{statement}
 use Rattle.windows.proofs.kernel.finish.Tie as tie
@@ -9,8 +9,8 @@ use Rattle.windows.proofs.kernel.finish.Tie as tie
 window-at-requires : tie.Need-window-at-requires
 window-at-requires c κs = search needs
 
-untied-requires : tie.Need-untied-requires
-untied-requires c κs = search needs
+ordered-requires : tie.Need-ordered-requires
+ordered-requires c κs = search needs
 
 ends-requires : tie.Need-ends-requires
 ends-requires c κs = search needs
@@ -29,8 +29,8 @@ returns c =
     let s = w .before .before .before .before in
     finish-wrote (s .args .arikan) (s .args .left) (s .args .to) (now (s .args .t)) (c .before .before .store .last .0) (e .ends .result)
     (e .ends .ensures
-    ∙ ap (masked (s .args .left)) (u .untied .ensures ∙ ap (untiedOf (s .args .arikan)) (w .window-at .ensures)))
+    ∙ ap (masked (s .args .left)) (u .ordered .ensures ∙ ap (orderedOf (s .args .arikan)) (w .window-at .ensures)))
     (c .before .before .store .ensures)
 
 pub finish-spec : {M : Type 1} → statement M
-finish-spec = tie.close (tie.spec window-at-requires untied-requires ends-requires store-requires same-length returns)
+finish-spec = tie.close (tie.spec window-at-requires ordered-requires ends-requires store-requires same-length returns)

@@ -10,13 +10,13 @@ use Rattle.windows.proofs.kernel.lift.Tie as tie
 flip-requires : tie.Need-flip-requires
 flip-requires c κs = search needs
 
-tied-requires : tie.Need-tied-requires
-tied-requires c κs = search needs
+convolved-requires : tie.Need-convolved-requires
+convolved-requires c κs = search needs
 
 returns : tie.Need-returns
 returns c =
-    c .tied .ensures
+    c .convolved .ensures
     ∙ ap (λ (y : Eight). sixteen (wrapOf false (entry y) (entry (c .before .before .args .b)) 0)) (c .before .flip .ensures)
 
 pub lift-spec : {M : Type 1} → statement M
-lift-spec = tie.close (tie.spec flip-requires tied-requires returns)
+lift-spec = tie.close (tie.spec flip-requires convolved-requires returns)

@@ -1,8 +1,8 @@
 use mathlib.Core.Bool.{true, false}
 use mathlib.Core.Path.{_≡_}
 use borrow.Author.Needs.{needs}
-use Rattle.windows.proofs.kernel.untied.Statement.{statement}
-use Rattle.windows.proofs.kernel.untied.Tie as tie
+use Rattle.windows.proofs.kernel.ordered.Statement.{statement}
+use Rattle.windows.proofs.kernel.ordered.Tie as tie
 
 returns : tie.Need-returns
 returns c = let h : c .before .args .arikan ≡ true = search needs in rw h
@@ -10,5 +10,5 @@ returns c = let h : c .before .args .arikan ≡ true = search needs in rw h
 returns-2 : tie.Need-returns-2
 returns-2 c = let h : c .before .args .arikan ≡ false = search needs in rw h
 
-pub untied-spec : {M : Type 1} → statement M
-untied-spec = tie.close (tie.spec returns returns-2)
+pub ordered-spec : {M : Type 1} → statement M
+ordered-spec = tie.close (tie.spec returns returns-2)
