@@ -1,5 +1,5 @@
 -- Both transforms by even and odd places: a_i = u_2i + b_i, and b_i = u_2i+1 + carry, where the carry is u_2i+2 or, for Arikan's (arikan), 0.
-use mathlib.Core.Path.{_≡_, refl, ap, ap₂, _∙_}
+use mathlib.Core.Path.{_≡_, refl, ap₂, _∙_}
 use mathlib.Core.Bool.{Bool, true, false, cond}
 use mathlib.Core.List.{List, [], _∷_}
 use Prim.Native.Nat.{ℕ, zero, suc}

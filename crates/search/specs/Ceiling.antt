@@ -1,7 +1,7 @@
 -- The ceiling over the whole code: 02, wish 5. A decoder call's ceiling against every word of the code, at any stop position, and
 -- what its equality with the first score says of the first row at stop n.
 use mathlib.Core.Path.{_≡_, sym, ap, subst, _∙_}
-use mathlib.Core.List.{List, [], append-nil}
+use mathlib.Core.List.{List, append-nil}
 use Prim.Native.Nat.{ℕ, _-_, _≤_}
 use native.Mathlib.Omega.{arith}
 use lib.ListN.{length, take, drop, length-take, length-drop, take-append-drop}
