@@ -11,7 +11,7 @@ use Rattle.laws.specs.Windows.{mask4, at4}
 use Rattle.laws.specs.Nodes.{Kind}
 use Rattle.laws.specs.Cells.{Cell, read3}
 use Rattle.windows.specs.declared.window.Sixteen.{Sixteen}
-use Rattle.windows.specs.Op.{op4w, sixteen, listed, orderedOf, orderAt, inside, masked, lift32, plain32, source, Wrote}
+use Rattle.windows.specs.Op.{op4w, sixteen, listed, rearranged, orderAt, inside, masked, lift32, plain32, source, Wrote}
 use Rattle.windows.proofs.Records.{listed-at}
 use Rattle.windows.proofs.Runs.{wrote-by}
 
@@ -66,12 +66,12 @@ masked-full (suc (suc (suc zero))) s p q = absurd (q refl)
 masked-full (suc (suc (suc (suc n)))) s p q = refl
 
 -- ---- the order of the transform
-order-of : (arikan : Bool) (f : ℕ → ℕ) → orderedOf arikan (sixteen f) ≡ sixteen (λ x. f (orderAt arikan x))
+order-of : (arikan : Bool) (f : ℕ → ℕ) → rearranged (orderAt arikan) (sixteen f) ≡ sixteen (λ x. f (orderAt arikan x))
 order-of true f = refl
 order-of false f = refl
 
 pub finish-wrote : (arikan : Bool) (left to : ℕ) (t t′ : List ℕ) (s : Sixteen)
-    → s ≡ masked left (orderedOf arikan (sixteen (λ x. getD t (to + x) 0))) → Wrote (λ x. getD (listed s) x 0) to 16 t t′
+    → s ≡ masked left (rearranged (orderAt arikan) (sixteen (λ x. getD t (to + x) 0))) → Wrote (λ x. getD (listed s) x 0) to 16 t t′
     → Wrote (λ x. getD t (to + source arikan left x) 0) to 16 t t′
 finish-wrote arikan left to t t′ s e =
     let f : ℕ → ℕ = λ x. getD t (to + x) 0 in

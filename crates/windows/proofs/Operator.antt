@@ -16,7 +16,7 @@ use Rattle.laws.specs.Nodes.{odd}
 use Rattle.laws.specs.Cells.{read3, peek}
 use Rattle.windows.specs.declared.window.Sixteen.{Sixteen}
 use Rattle.windows.specs.Op.{wrapOf, op4w, three, oddRead, evenRead, readB, entry, eight, sixteen, listed}
-use Rattle.windows.specs.Op.{orderedOf, bottomOrderedOf, flipped, kindB, tabAt, plain32, Wrote, bottomF}
+use Rattle.windows.specs.Op.{rearranged, orderAt, bottomOrderAt, flipped, kindB, tabAt, plain32, Wrote, bottomF}
 use Rattle.windows.specs.Start.{pairCosts, wordCosts, freeLast, woven, first32}
 use Rattle.windows.proofs.Records.{sixteen-ext, listed-at}
 use Rattle.windows.proofs.Runs.{wrote-by}
@@ -106,7 +106,7 @@ peek-least b o t p x
     by-phase false = refl
 
 -- ---- the start
-pub bottom-is : (arikan : Bool) (a b c d : ℤ) → bottomOrderedOf arikan (wordCosts (pairCosts a b) (pairCosts c d)) ≡ sixteen (F arikan (a ∷ b ∷ c ∷ d ∷ []))
+pub bottom-is : (arikan : Bool) (a b c d : ℤ) → rearranged (bottomOrderAt arikan) (wordCosts (pairCosts a b) (pairCosts c d)) ≡ sixteen (F arikan (a ∷ b ∷ c ∷ d ∷ []))
 unfolding F4 byPlaces
 bottom-is arikan a b c d = go arikan
   where
@@ -115,7 +115,7 @@ bottom-is arikan a b c d = go arikan
         ≡ bitCost a p + (bitCost b q + (bitCost c r + (bitCost d s + 0)))
     at p q r s = omega arith
 
-    go : (arikan : Bool) → bottomOrderedOf arikan (wordCosts (pairCosts a b) (pairCosts c d)) ≡ sixteen (F arikan (a ∷ b ∷ c ∷ d ∷ []))
+    go : (arikan : Bool) → rearranged (bottomOrderAt arikan) (wordCosts (pairCosts a b) (pairCosts c d)) ≡ sixteen (F arikan (a ∷ b ∷ c ∷ d ∷ []))
     go false = sixteen-ext _ _
         (at 0 0 0 0) (at 1 0 0 0) (at 1 1 0 0) (at 0 1 0 0) (at 0 1 1 0) (at 1 1 1 0) (at 1 0 1 0) (at 0 0 1 0)
         (at 1 1 1 1) (at 0 1 1 1) (at 0 0 1 1) (at 1 0 1 1) (at 1 0 0 1) (at 0 0 0 1) (at 0 1 0 1) (at 1 1 0 1)
@@ -124,7 +124,7 @@ bottom-is arikan a b c d = go arikan
         (at 1 1 1 1) (at 0 1 1 1) (at 0 0 1 1) (at 1 0 1 1) (at 0 1 0 1) (at 1 1 0 1) (at 1 0 0 1) (at 0 0 0 1)
 
 -- the order of the costs is all that differs between the transforms
-pub ordered-is : (arikan : Bool) (A B : ℕ → ℕ) → orderedOf arikan (sixteen (wrapOf false A B 0)) ≡ sixteen (wrapOf arikan A B 0)
+pub ordered-is : (arikan : Bool) (A B : ℕ → ℕ) → rearranged (orderAt arikan) (sixteen (wrapOf false A B 0)) ≡ sixteen (wrapOf arikan A B 0)
 unfolding wrapOf
 ordered-is true A B = refl
 ordered-is false A B = refl

@@ -1,6 +1,5 @@
 -- What the kernels compute: the operator on windows with sums that wrap, over the cells of the laws, and the structs
--- of the
--- code as functions and lists.
+-- of the code as functions and lists.
 use mathlib.Core.Path.{_≡_}
 use mathlib.Core.Bool.{Bool, true, false}
 use mathlib.Core.List.{List, [], _∷_}
@@ -81,54 +80,19 @@ three f a b c = f (pack3 a b c)
 unfoldable pub wrapOf : Bool → (ℕ → ℕ) → (ℕ → ℕ) → ℕ → ℕ → ℕ
 wrapOf arikan A B e = at4 (op4w arikan (three A) (three B) e)
 
--- a window of Arikan's transform from the other's: x₁ stands for x₁ + x₂, and x₃ for x₃ + x₄
-abbrev pub orderedOf : Bool → Sixteen → Sixteen
-orderedOf true s = record {
-  x0 = s .x0;
-  x1 = s .x1;
-  x2 = s .x3;
-  x3 = s .x2;
-  x4 = s .x4;
-  x5 = s .x5;
-  x6 = s .x7;
-  x7 = s .x6;
-  x8 = s .x12;
-  x9 = s .x13;
-  x10 = s .x15;
-  x11 = s .x14;
-  x12 = s .x8;
-  x13 = s .x9;
-  x14 = s .x11;
-  x15 = s .x10;
-}
-orderedOf false s = s
+-- a window whose cost at x stands at f x of another
+abbrev pub rearranged : (ℕ → ℕ) → Sixteen → Sixteen
+rearranged f s = sixteen (λ x. getD (listed s) (f x) 0)
 
--- that order by its bits
+-- where a window of Arikan's transform has its costs in the other's: x₁ stands for x₁ + x₂, and x₃ for x₃ + x₄
 abbrev pub orderAt : Bool → ℕ → ℕ
 orderAt true x = at4 (λ x₁ x₂ x₃ x₄. pack4 (x₁ ⊕ x₂) x₂ (x₃ ⊕ x₄) x₄) x
 orderAt false x = x
 
--- the costs of the bottom's words: u₁ stands for u₁ + u₂
-abbrev pub bottomOrderedOf : Bool → Sixteen → Sixteen
-bottomOrderedOf true s = record {
-  x0 = s .x0;
-  x1 = s .x1;
-  x2 = s .x2;
-  x3 = s .x3;
-  x4 = s .x6;
-  x5 = s .x7;
-  x6 = s .x4;
-  x7 = s .x5;
-  x8 = s .x8;
-  x9 = s .x9;
-  x10 = s .x10;
-  x11 = s .x11;
-  x12 = s .x14;
-  x13 = s .x15;
-  x14 = s .x12;
-  x15 = s .x13;
-}
-bottomOrderedOf false s = s
+-- and the bottom's words theirs: u₁ stands for u₁ + u₂
+abbrev pub bottomOrderAt : Bool → ℕ → ℕ
+bottomOrderAt true x = at4 (λ u₀ u₁ u₂ u₃. pack4 u₀ (u₁ ⊕ u₂) u₂ u₃) x
+bottomOrderAt false x = x
 
 -- a's costs, where e is 1 each in the other's place of the first bit
 abbrev pub flipped : ℕ → Eight → Eight
@@ -152,7 +116,7 @@ inside (suc (suc zero)) x = x
 inside (suc (suc (suc (suc n)))) x = x
 
 abbrev pub masked : ℕ → Sixteen → Sixteen
-masked left s = sixteen (λ x. getD (listed s) (inside left x) 0)
+masked left = rearranged (inside left)
 
 -- ---- what callers see
 -- t′ is t with F m at o + m for each m below n

@@ -4,7 +4,7 @@ ghost use mathlib.Core.Bool.{false};
 ghost use Prim.Native.Nat.{_+_, _%_, _≤_, _^_, min};
 ghost use mathlib.Core.List.{[], _∷_};
 ghost use lib.ListN.{length, getD};
-ghost use Rattle.windows.specs.Op.{wrapOf, entry, sixteen, orderedOf, flipped, kindB, tabAt, plain32, source, Wrote};
+ghost use Rattle.windows.specs.Op.{wrapOf, entry, sixteen, rearranged, orderAt, flipped, kindB, tabAt, plain32, source, Wrote};
 use crate::ends::ends;
 use crate::table::read;
 use crate::table::store;
@@ -70,7 +70,7 @@ fn convolved(a: Eight, b: Eight) -> Sixteen
 
 // A window in the order of the code's transform: Arikan's operator has the same costs in another one.
 fn ordered(s: Sixteen, arikan: bool) -> Sixteen
-    ensures { λ r. ⌜ r ≡ orderedOf arikan s ⌝ }
+    ensures { λ r. ⌜ r ≡ rearranged (orderAt arikan) s ⌝ }
 {
     if arikan {
         return Sixteen {

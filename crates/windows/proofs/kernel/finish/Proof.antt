@@ -1,7 +1,7 @@
 use mathlib.Core.Path.{ap, _∙_}
 use denote.Ref.{now}
 use borrow.Author.Needs.{needs}
-use Rattle.windows.specs.Op.{orderedOf, masked}
+use Rattle.windows.specs.Op.{rearranged, orderAt, masked}
 use Rattle.windows.proofs.Finishing.{finish-wrote}
 use Rattle.windows.proofs.kernel.finish.Statement.{statement}
 use Rattle.windows.proofs.kernel.finish.Tie as tie
@@ -29,7 +29,7 @@ returns c =
     let s = w .before .before .before .before in
     finish-wrote (s .args .arikan) (s .args .left) (s .args .to) (now (s .args .t)) (c .before .before .store .last .0) (e .ends .result)
     (e .ends .ensures
-    ∙ ap (masked (s .args .left)) (u .ordered .ensures ∙ ap (orderedOf (s .args .arikan)) (w .window-at .ensures)))
+    ∙ ap (masked (s .args .left)) (u .ordered .ensures ∙ ap (rearranged (orderAt (s .args .arikan))) (w .window-at .ensures)))
     (c .before .before .store .ensures)
 
 pub finish-spec : {M : Type 1} → statement M

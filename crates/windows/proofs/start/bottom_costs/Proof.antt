@@ -5,7 +5,7 @@ use borrow.Author.Needs.{needs}
 use mir.Syntax.{w16}
 use mir.Val.{SFits, toZ, ofZ}
 use mir.ValLaws.{toZ-ofZ}
-use Rattle.windows.specs.Op.{bottomOrderedOf}
+use Rattle.windows.specs.Op.{rearranged, bottomOrderAt}
 use Rattle.windows.specs.Start.{pairCosts, wordCosts}
 use Rattle.windows.proofs.Operator.{bottom-is}
 use Rattle.windows.proofs.start.bottom_costs.Statement.{statement}
@@ -31,7 +31,7 @@ returns c =
     ∙ ap₂ pairCosts (back (s .args .a) (s .fits .a)) (back (s .args .b) (s .fits .b)) in
     let q = c .before .before .pair-costs2 .ensures .0
     ∙ ap₂ pairCosts (back (s .args .c) (s .fits .c)) (back (s .args .d) (s .fits .d)) in
-    c .bottom-ordered .ensures ∙ ap (bottomOrderedOf (s .args .arikan)) (c .before .word-costs .ensures ∙ ap₂ wordCosts p q)
+    c .bottom-ordered .ensures ∙ ap (rearranged (bottomOrderAt (s .args .arikan))) (c .before .word-costs .ensures ∙ ap₂ wordCosts p q)
     ∙ bottom-is (s .args .arikan) (s .args .a) (s .args .b) (s .args .c) (s .args .d)
 
 pub bottom-costs-spec : {M : Type 1} → statement M
