@@ -6,6 +6,7 @@ use job_fields::Layout;
 use job_fields::list_size;
 use job_fields::soft_value;
 use job_fields::stop_position;
+use ranges::either;
 use ranges::out_of_range;
 use ranges::range_refusal;
 pub use shape::Located;
@@ -46,15 +47,6 @@ fn code_and_range_refusal(bytes: &[u8], at: Layout) -> u32
     let p = stop_position(bytes, at);
     let l = list_size(bytes, at);
     range_refusal(at.n, l, p)
-}
-
-fn either(a: bool, b: bool) -> bool
-    ensures { λ r. ⌜ r ≡ (a || b) ⌝ }
-{
-    if a {
-        return true;
-    }
-    b
 }
 
 // One of n soft values from a place on is out of range. All are looked at, and none ends the loop: so it runs in vector instructions.

@@ -1,7 +1,7 @@
 // The ranges of what a run of the decoder is asked for: list size, stop position and soft values. Conditions 4 to 7; and what a
 // soft value is taken as.
 ghost use mathlib.Core.Path.{_≡_};
-ghost use mathlib.Core.Bool.{false};
+ghost use mathlib.Core.Bool.{false, _||_};
 ghost use Prim.Native.Nat.{_<_};
 ghost use lib.ListN.{length, getD};
 ghost use lib.IntN.{pos};
@@ -55,17 +55,27 @@ pub fn taken_at(soft: &[i16], i: usize) -> i16
     saturated(soft[i])
 }
 
+// One of two tests holds.
+pub fn either(a: bool, b: bool) -> bool
+    ensures { λ r. ⌜ r ≡ (a || b) ⌝ }
+{
+    if a {
+        return true;
+    }
+    b
+}
+
+// All values are looked at, and none ends the loop: so it runs in vector instructions.
 fn some_out_of_range(soft: &[i16]) -> bool
     ensures { λ r. ⌜ r ≡ some outOfRange (now (soft .entry)) ⌝ }
 {
+    let mut outside = false;
     let mut i = 0;
     while i < soft.len() {
-        if out_of_range(soft[i]) {
-            return true;
-        }
+        outside = either(outside, out_of_range(soft[i]));
         i += 1;
     }
-    false
+    outside
 }
 
 // Refusals 6 and 7, or 0: soft values for n positions.

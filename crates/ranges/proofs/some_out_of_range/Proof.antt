@@ -1,6 +1,6 @@
--- `ranges::some_out_of_range` meets its contract: what is left to scan decides. Assumes nothing.
+-- `ranges::some_out_of_range` meets its contract: what was found so far, or the values that are left, decide. Assumes nothing.
 use mathlib.Core.Path.{_≡_, refl, sym, ap, _∙_}
-use mathlib.Core.Bool.{Bool, true, false, _||_}
+use mathlib.Core.Bool.{Bool, _||_, or-assoc, or-false}
 use mathlib.Core.List.{List}
 use Prim.Native.Nat.{ℕ, _+_, _-_, _≤_, _<_}
 use native.Mathlib.Numerals.{add-one}
@@ -17,20 +17,23 @@ use Rattle.ranges.proofs.some_out_of_range.Statement.{statement}
 use Rattle.ranges.proofs.some_out_of_range.Tie as tie
 
 abbrev Inv-loop : tie.InvT-loop
-Inv-loop soft i₀ i = (i ≤ length soft) × (some outOfRange soft ≡ some outOfRange (drop i soft))
+Inv-loop soft outside₀ i₀ outside i = (i ≤ length soft) × (some outOfRange soft ≡ (outside || some outOfRange (drop i soft)))
 
 abbrev μ-loop : tie.MeasureT-loop
-μ-loop soft i₀ i = length soft - i
+μ-loop soft outside₀ i₀ outside i = length soft - i
 
-at : (y : List ℤ) (i : ℕ) (b : Bool) → i < length y → b ≡ outOfRange (getD y i (pos 0)) → some outOfRange (drop i y) ≡ (b || some outOfRange (drop (i + 1) y))
+-- value i, or one of those behind it
+ahead : (y : List ℤ) (i : ℕ) → i < length y → some outOfRange (drop i y) ≡ (outOfRange (getD y i (pos 0)) || some outOfRange (drop (i + 1) y))
 unfolding some
-at y i b h e = rw (add-one i, drop-cons y i (pos 0), e)
+ahead y i h = rw (add-one i, drop-cons y i (pos 0))
 
--- the value that was tested
-tested : (c : tie.After-out-of-range Inv-loop μ-loop) → c .out-of-range .result ≡ outOfRange (getD (c .before .before .before .before .args .soft .now) (c .before .before .before .loop .i) (pos 0))
-tested c =
-    let y = getD (c .before .before .before .before .args .soft .now) (c .before .before .before .loop .i) (pos 0) in
-    c .out-of-range .ensures ∙ ap outOfRange (toZ-ofZ w16 y (record { sfits = c .before .out-of-range-arg .given }))
+-- one value more: with what was found before, what is behind it decides
+turn : (y : List ℤ) (i : ℕ) (found v r : Bool) → i < length y → v ≡ outOfRange (getD y i (pos 0)) → r ≡ (found || v)
+    → (found || some outOfRange (drop i y)) ≡ (r || some outOfRange (drop (i + 1) y))
+turn y i found v r h e q =
+    let rest : Bool = some outOfRange (drop (i + 1) y) in
+    ap (λ (b : Bool). found || b) (ahead y i h ∙ ap (λ (b : Bool). b || rest) (sym e))
+    ∙ sym (or-assoc found v rest) ∙ ap (λ (b : Bool). b || rest) (sym q)
 
 loop-holds : tie.Need-loop-holds Inv-loop μ-loop
 loop-holds c = (omega arith, refl)
@@ -44,11 +47,8 @@ shared-slice-copy-out-out-of-range c = search needs
 out-of-range-requires : tie.Need-out-of-range-requires Inv-loop μ-loop
 out-of-range-requires c κs = search needs
 
-returns : tie.Need-returns Inv-loop μ-loop
-returns c =
-    let a = c .before in
-    let l = a .before .before .before in
-    sym (l .loop .inv .1 ∙ at (l .before .args .soft .now) (l .loop .i) true (a .before .before .loop-test .taken) (sym (c .if1 .taken) ∙ tested a))
+either-requires : tie.Need-either-requires Inv-loop μ-loop
+either-requires c κs = search needs
 
 add-i : tie.Need-add-i Inv-loop μ-loop
 add-i c = omega arith
@@ -58,14 +58,23 @@ loop-less c = omega arith
 
 loop-again : tie.Need-loop-again Inv-loop μ-loop
 loop-again c =
-    let a = c .before in
-    let l = a .before .before .before in
-    (omega arith, l .loop .inv .1 ∙ at (l .before .args .soft .now) (l .loop .i) false (a .before .before .loop-test .taken) (sym (c .if1 .left) ∙ tested a))
+    let o = c .before in
+    let t = o .before .before in
+    let l = t .before in
+    let y = l .before .args .soft .now in
+    let i = l .loop .i in
+    let v = getD y i (pos 0) in (
+      omega arith,
+      l .loop .inv .1
+          ∙ turn y i (l .loop .outside) (o .out-of-range .result) (c .either .result) (t .loop-test .taken)
+          (o .out-of-range .ensures ∙ ap outOfRange (toZ-ofZ w16 v (record { sfits = o .before .out-of-range-arg .given }))) (c .either .ensures),
+    )
 
-returns-2 : tie.Need-returns-2 Inv-loop μ-loop
+returns : tie.Need-returns Inv-loop μ-loop
 unfolding some
-returns-2 c =
-    sym (c .before .loop .inv .1 ∙ ap (some outOfRange) (drop-of-length-le _ (c .loop-test .left)))
+returns c =
+    let l = c .before in
+    sym (l .loop .inv .1 ∙ ap (λ (y : List ℤ). l .loop .outside || some outOfRange y) (drop-of-length-le _ (c .loop-test .left)) ∙ or-false (l .loop .outside))
 
 pub some-out-of-range-spec : {M : Type 1} → statement M
 some-out-of-range-spec =
@@ -77,8 +86,8 @@ some-out-of-range-spec =
     mul-out-of-range
     shared-slice-copy-out-out-of-range
     out-of-range-requires
-    returns
+    either-requires
     add-i
     loop-less
     loop-again
-    returns-2)
+    returns)
