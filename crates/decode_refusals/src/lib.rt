@@ -1,11 +1,12 @@
 // The refusals of a decoder call in turn, 1 to 10 with 15 behind 3, decided before anything is written.
 ghost use mathlib.Core.Path.{_≡_};
 ghost use mathlib.Core.Bool.{Bool, _||_};
-ghost use Prim.Native.Nat.{_≤_};
+ghost use mathlib.Core.List.{_++_};
+ghost use Prim.Native.Nat.{_^_, _≤_};
 ghost use lib.Dec.{ltb};
 ghost use Rattle.spec.specs.Code.{code};
 ghost use Rattle.spec.specs.Faults.{first};
-ghost use Rattle.spec.specs.Refusals.{room, runFaults, tableFaults, decodeFaults};
+ghost use Rattle.spec.specs.Refusals.{room, codeFaults, runFaults, tableFaults, decodeFaults};
 use code::code_refusal;
 use code::size;
 use ranges::range_refusal;
@@ -21,6 +22,20 @@ fn run_refusal(n: usize, l: u32, p: u32, soft: &[i16]) -> u32
         return range;
     }
     soft_refusal(n, soft)
+}
+
+// Refusals 1 to 7 with 15 behind 3, or 0: of a code, whatever its transform is, and of what is asked of a block. Every call on both begins
+// with these.
+pub fn block_refusal(m: u32, map: &[u8], pairs: &[u8], l: u32, p: u32, soft: &[i16]) -> u32
+    ensures { λ r. ⌜ ((arikan : Bool) → r ≡ first (codeFaults (code m arikan (now (map .entry)) (now (pairs .entry)))
+        ++ runFaults (2 ^ m) l p (now (soft .entry)))) ⌝ }
+{
+    let code = code_refusal(m, map, pairs);
+    if code != 0 {
+        return code;
+    }
+    let n = size(m);
+    run_refusal(n, l, p, soft)
 }
 
 // An output has too few places: l rows of n bytes are `area` bytes.
@@ -83,14 +98,10 @@ pub fn decode_refusal(
     ensures { λ r. ⌜ ((arikan : Bool) → r ≡ first (decodeFaults (code m arikan (now (map .entry)) (now (pairs .entry))) l p (now (soft .entry))
         (room numbers bytes inputs words scores))) ⌝ }
 {
-    let code = code_refusal(m, map, pairs);
-    if code != 0 {
-        return code;
+    let block = block_refusal(m, map, pairs, l, p, soft);
+    if block != 0 {
+        return block;
     }
     let n = size(m);
-    let run = run_refusal(n, l, p, soft);
-    if run != 0 {
-        return run;
-    }
     table_refusal(n, l as usize, numbers, bytes, inputs, words, scores)
 }
