@@ -9,7 +9,7 @@ ghost use Prim.Native.Nat.{_+_, _*_, _^_, _≤_};
 ghost use lib.ListN.{length};
 ghost use Rattle.spec.specs.Code.{code};
 ghost use Rattle.decoder.specs.Answers.{answerOf};
-ghost use Rattle.text.specs.Put.{Begins};
+ghost use Rattle.place.specs.Put.{Begins};
 ghost use Rattle.block_output.specs.Block.{rowsAnswered, answerText, decodedText, blockText};
 
 // What the decoder answered and left, rows of n bits, as text.

@@ -5,7 +5,7 @@ use job::read_job;
 use row_text::write_refused;
 ghost use Prim.Native.Nat.{_≤_};
 ghost use lib.ListN.{length};
-ghost use Rattle.text.specs.Put.{Begins};
+ghost use Rattle.place.specs.Put.{Begins};
 ghost use Rattle.decode_job.specs.ProgramOutput.{programOutput};
 ghost use Rattle.decode_job.specs.Records.{recordOutput};
 

@@ -7,7 +7,7 @@ use native.Mathlib.Omega.{arith}
 use lib.ListN.{take, drop, getD}
 use lib.Seq.{drop-drop, getD-drop}
 use lib.IntN.{ℤ, pos}
-use Rattle.text.specs.Put.{Put, put-same}
+use Rattle.place.specs.Put.{Put, put-same}
 use Rattle.row_text.specs.Output.{rowLine, rowLines}
 
 -- what the rows from a rank on take, k each: the row at the rank and those behind it

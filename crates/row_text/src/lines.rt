@@ -1,7 +1,7 @@
 // The lines that the program writes.
+use place::put_byte;
+use place::put_bytes;
 use text::put_bits;
-use text::put_byte;
-use text::put_bytes;
 use text::put_number;
 use text::put_signed;
 ghost use mathlib.Core.List.{_++_};
@@ -9,7 +9,7 @@ ghost use Prim.Native.Nat.{_+_, _≤_};
 ghost use lib.ListN.{length};
 ghost use Rattle.text.specs.BitText.{bitText};
 ghost use Rattle.text.specs.Decimal.{decimal, signedDecimal};
-ghost use Rattle.text.specs.Put.{Put, Begins};
+ghost use Rattle.place.specs.Put.{Put, Begins};
 ghost use Rattle.row_text.specs.Output.{ceilingWord, space, refusedText, frameLine, rowLine};
 
 // A word and a number.

@@ -3,7 +3,7 @@ use crate::lines::put_frame_line;
 use crate::lines::put_row;
 ghost use Prim.Native.Nat.{_+_, _*_, _≤_};
 ghost use lib.ListN.{length};
-ghost use Rattle.text.specs.Put.{Put, Begins};
+ghost use Rattle.place.specs.Put.{Put, Begins};
 ghost use Rattle.row_text.specs.Output.{rowLines, outputOf};
 
 // A line for each row: at most 25 bytes beside its bits.

@@ -1,39 +1,20 @@
--- The loops that write a text byte by byte, as laws of lists: one turn, and the end. Assumes nothing.
+-- The loop that writes bits as text, as laws of lists: one turn, and the end. Assumes nothing.
 use mathlib.Core.Path.{_≡_, ap, _∙_}
-use mathlib.Core.List.{List, _∷_}
+use mathlib.Core.List.{List}
 use Prim.Native.Nat.{ℕ, _+_, _≤_, _<_}
-use native.Mathlib.Numerals.{add-one}
-use native.Mathlib.Omega.{arith}
 use lib.ListN.{length, drop, set, getD, drop-of-length-le}
-use lib.Seq.{drop-cons}
+use Rattle.place.specs.Put.{placed, placed-none}
+use Rattle.place.specs.Turns.{rest, further}
 use Rattle.text.specs.BitText.{bitByte, bitText}
-use Rattle.text.specs.Put.{placed, placed-none, placed-next}
-
--- the rest of a list begins with what stands at i
-rest : (s : List ℕ) (i : ℕ) → i < length s → drop i s ≡ getD s i 0 ∷ drop (i + 1) s
-rest s i h = rw (add-one i) (drop-cons s i 0 h)
-
--- one byte is written, and the place is one further
-further : (at i x : ℕ) (xs t : List ℕ) → placed (at + i) (x ∷ xs) t ≡ placed (at + (i + 1)) xs (set t (at + i) x)
-further at i x xs t =
-    let e : at + i + 1 ≡ at + (i + 1) = omega arith in
-    placed-next (at + i) x xs t ∙ ap (λ (k : ℕ). placed k xs (set t (at + i) x)) e
-
-pub byte-turn : (at i : ℕ) (s t : List ℕ) → i < length s
-    → placed (at + i) (drop i s) t ≡ placed (at + (i + 1)) (drop (i + 1) s) (set t (at + i) (getD s i 0))
-byte-turn at i s t h = ap (λ (l : List ℕ). placed (at + i) l t) (rest s i h) ∙ further at i (getD s i 0) (drop (i + 1) s) t
 
 pub bit-turn : (at i x : ℕ) (s t : List ℕ) → i < length s → x ≡ bitByte (getD s i 0)
     → placed (at + i) (bitText (drop i s)) t ≡ placed (at + (i + 1)) (bitText (drop (i + 1) s)) (set t (at + i) x)
 unfolding bitText
 bit-turn at i x s t h e =
-    ap (λ (l : List ℕ). placed (at + i) (bitText l) t) (rest s i h) ∙ further at i (bitByte (getD s i 0)) (bitText (drop (i + 1) s)) t
+    ap (λ (l : List ℕ). placed (at + i) (bitText l) t) (rest s i 0 h) ∙ further at i (bitByte (getD s i 0)) (bitText (drop (i + 1) s)) t
     ∙ rw e
 
--- all bytes are written
-pub bytes-done : (at i : ℕ) (s t : List ℕ) → length s ≤ i → placed (at + i) (drop i s) t ≡ t
-bytes-done at i s t h = rw (drop-of-length-le s h, ← placed-none (at + i) t)
-
+-- all bits are written
 pub bits-done : (at i : ℕ) (s t : List ℕ) → length s ≤ i → placed (at + i) (bitText (drop i s)) t ≡ t
 unfolding bitText
 bits-done at i s t h = rw (drop-of-length-le s h, ← placed-none (at + i) t)

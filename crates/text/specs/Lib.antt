@@ -1,3 +1,2 @@
 pub mod BitText
 pub mod Decimal
-pub mod Put

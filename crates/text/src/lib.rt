@@ -1,9 +1,7 @@
-// Bytes, bits and numbers put into a buffer as text.
+// Bits and numbers put into a buffer as text.
+mod bits;
 mod numbers;
-mod place;
 
+pub use bits::put_bits;
 pub use numbers::put_number;
 pub use numbers::put_signed;
-pub use place::put_bits;
-pub use place::put_byte;
-pub use place::put_bytes;

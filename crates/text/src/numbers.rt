@@ -1,11 +1,11 @@
 // Numbers in decimal, written into a buffer from a place on. Each function returns the place behind what it wrote.
-use crate::place::put_byte;
+use place::put_byte;
 ghost use mathlib.Core.Path.{_≡_};
 ghost use Prim.Native.Nat.{_+_, _≤_, _<_};
 ghost use lib.IntN.{natAbs};
 ghost use lib.ListN.{length};
 ghost use Rattle.text.specs.Decimal.{decimal, signedDecimal};
-ghost use Rattle.text.specs.Put.{Put};
+ghost use Rattle.place.specs.Put.{Put};
 
 fn digit(d: u32) -> u8
     requires { ⌜ d < 10 ⌝ }

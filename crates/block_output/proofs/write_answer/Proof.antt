@@ -8,7 +8,7 @@ use mir.Syntax.{w32}
 use mir.ValLaws.{toZ-ofZ}
 use Rattle.decoder.specs.Answers.{answerOf}
 use Rattle.decoder.specs.declared.call.Decoded.{Decoded}
-use Rattle.text.specs.Put.{begins-same}
+use Rattle.place.specs.Put.{begins-same}
 use Rattle.row_text.specs.Output.{outputOf}
 use Rattle.block_output.specs.Block.{rowsAnswered, answerText}
 use Rattle.block_output.proofs.write_answer.Statement.{statement}

@@ -6,7 +6,7 @@ use lib.ListN.{take}
 use lib.Seq.{length-take-le}
 use Rattle.spec.specs.Code.{code}
 use Rattle.block_output.specs.Block.{decodedText, too-wide, too-many, fitting}
-use Rattle.text.specs.Put.{begins-same}
+use Rattle.place.specs.Put.{begins-same}
 use Rattle.block_output.proofs.write_block.Statement.{statement}
 use Rattle.block_output.proofs.write_block.Tie as tie
 

@@ -5,7 +5,7 @@ use native.Mathlib.Omega.{arith}
 use Rattle.spec.specs.Code.{Code, code}
 use Rattle.spec.specs.Outcome.{lent, Decoding, decoding}
 use Rattle.decoder.specs.Answers.{answerOf}
-use Rattle.text.specs.Put.{begins-same}
+use Rattle.place.specs.Put.{begins-same}
 use Rattle.block_output.specs.Block.{rowsAnswered, answerText, four-fit, answer-text, answer-rows}
 use Rattle.block_output.proofs.write_decoded.Statement.{statement}
 use Rattle.block_output.proofs.write_decoded.Tie as tie

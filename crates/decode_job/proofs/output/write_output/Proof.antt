@@ -1,7 +1,7 @@
 -- `decode_job::output::write_output` meets its contract: 13 above 4,096 bytes, or the output for the record. Assumes nothing.
 use borrow.Author.Needs.{needs}
 use Rattle.decode_job.specs.Records.{too-long, not-too-long}
-use Rattle.text.specs.Put.{begins-same}
+use Rattle.place.specs.Put.{begins-same}
 use Rattle.decode_job.proofs.output.write_output.Statement.{statement}
 use Rattle.decode_job.proofs.output.write_output.Tie as tie
 

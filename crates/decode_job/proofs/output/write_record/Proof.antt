@@ -9,7 +9,7 @@ use Rattle.job.specs.Answer.{jobOf}
 use Rattle.job.specs.Calls.{read-limits}
 use Rattle.job.specs.declared.Job.{Job}
 use Rattle.decode_job.specs.Records.{refused-record, read-record}
-use Rattle.text.specs.Put.{begins-same}
+use Rattle.place.specs.Put.{begins-same}
 use Rattle.decode_job.proofs.output.write_record.Statement.{statement}
 use Rattle.decode_job.proofs.output.write_record.Tie as tie
 

@@ -7,7 +7,7 @@ use mir.Syntax.{w32}
 use mir.ValLaws.{toZ-ofZ}
 use Rattle.text.specs.Decimal.{signedDecimal}
 use Rattle.row_text.specs.Output.{ceilingWord, frameLine}
-use Rattle.text.specs.Put.{then, put-same}
+use Rattle.place.specs.Put.{then, put-same}
 use Rattle.row_text.proofs.lines.put_frame_line.Statement.{statement}
 use Rattle.row_text.proofs.lines.put_frame_line.Tie as tie
 

@@ -1,6 +1,6 @@
 -- `row_text::lines::put_named` meets its contract: the word, and the number behind it. Assumes nothing.
 use native.Mathlib.Omega.{arith}
-use Rattle.text.specs.Put.{then}
+use Rattle.place.specs.Put.{then}
 use Rattle.row_text.proofs.lines.put_named.Statement.{statement}
 use Rattle.row_text.proofs.lines.put_named.Tie as tie
 

@@ -1,6 +1,6 @@
 -- `row_text::lines::put_words` meets its contract: four texts one behind the other. Assumes nothing.
 use native.Mathlib.Omega.{arith}
-use Rattle.text.specs.Put.{then}
+use Rattle.place.specs.Put.{then}
 use Rattle.row_text.proofs.lines.put_words.Statement.{statement}
 use Rattle.row_text.proofs.lines.put_words.Tie as tie
 

@@ -1,7 +1,7 @@
 -- `row_text::lines::write_refused` meets its contract: the word and the number, and a line feed. Assumes nothing.
 use native.Mathlib.Omega.{arith}
 use Rattle.row_text.specs.Output.{refusedText}
-use Rattle.text.specs.Put.{then, whole}
+use Rattle.place.specs.Put.{then, whole}
 use Rattle.row_text.proofs.lines.write_refused.Statement.{statement}
 use Rattle.row_text.proofs.lines.write_refused.Tie as tie
 

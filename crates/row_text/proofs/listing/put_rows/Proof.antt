@@ -9,7 +9,7 @@ use lib.IntN.{ℤ, pos}
 use mir.Syntax.{w32}
 use mir.ValLaws.{toZ-ofZ}
 use Rattle.row_text.specs.Output.{rowLines}
-use Rattle.text.specs.Put.{Left, all-left, less-left, none-left}
+use Rattle.place.specs.Put.{Left, all-left, less-left, none-left}
 use Rattle.row_text.proofs.RowTurns.{one-less, row-turn, row-put, rows-done}
 use Rattle.row_text.proofs.listing.put_rows.Statement.{statement}
 use Rattle.row_text.proofs.listing.put_rows.Tie as tie

@@ -4,7 +4,7 @@ use native.Mathlib.Omega.{arith}
 use mir.Syntax.{w32}
 use mir.ValLaws.{toZ-ofZ}
 use Rattle.row_text.specs.Output.{frameLine, rowLines, outputOf}
-use Rattle.text.specs.Put.{then, put-same, whole}
+use Rattle.place.specs.Put.{then, put-same, whole}
 use Rattle.row_text.proofs.listing.write_rows.Statement.{statement}
 use Rattle.row_text.proofs.listing.write_rows.Tie as tie
 

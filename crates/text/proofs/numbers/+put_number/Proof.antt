@@ -7,12 +7,12 @@ use borrow.Fn.Kinds.{In}
 use borrow.Fn.PlainCycle.{Measures, is, falls, and}
 use lib.ListN.{length}
 use Rattle.text.specs.Decimal.{decimal, decimal-low, decimal-high, decimal-length, decimal-32}
-use Rattle.text.specs.Put.{then, put-same}
+use Rattle.place.specs.Put.{then, put-same}
 use Rattle.text.proofs.numbers.put_number.Reads as put-number
 use Rattle.text.proofs.numbers.put_number.Kinds as put-number-kinds
 use Rattle.text.proofs.numbers.+put_number.Lts-put_number as put-number-lts
 use Rattle.text.proofs.numbers.digit.Reads as digit-reads
-use Rattle.text.proofs.place.put_byte.Reads as put-byte-reads
+use Rattle.place.proofs.put_byte.Reads as put-byte-reads
 use Rattle.text.proofs.numbers.+put_number.{statement}
 use Rattle.text.proofs.numbers.+put_number.Tie.{close}
 

@@ -7,7 +7,7 @@ use lib.IntN.{natAbs}
 use mir.Syntax.{w32}
 use mir.ValLaws.{toZ-ofZ}
 use Rattle.text.specs.Decimal.{decimal}
-use Rattle.text.specs.Put.{then, put-same}
+use Rattle.place.specs.Put.{then, put-same}
 use Rattle.text.proofs.SignedText.{minus-text, plain-text}
 use Rattle.text.proofs.numbers.put_signed.Statement.{statement}
 use Rattle.text.proofs.numbers.put_signed.Tie as tie

@@ -1,10 +1,10 @@
--- `text::place::put_byte` meets its contract. Assumes nothing.
+-- `place::put_byte` meets its contract. Assumes nothing.
 use mathlib.Core.Path.{refl}
 use native.Mathlib.Omega.{arith}
 use lib.ListN.{length-set}
-use Rattle.text.specs.Put.{placed-one}
-use Rattle.text.proofs.place.put_byte.Statement.{statement}
-use Rattle.text.proofs.place.put_byte.Tie as tie
+use Rattle.place.specs.Put.{placed-one}
+use Rattle.place.proofs.put_byte.Statement.{statement}
+use Rattle.place.proofs.put_byte.Tie as tie
 
 slice-write-out : tie.Need-slice-write-out
 slice-write-out c = omega arith

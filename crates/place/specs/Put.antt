@@ -1,4 +1,4 @@
--- Text written into a buffer at a place.
+-- Bytes written into a buffer at a place.
 use mathlib.Core.Path.{_≡_, refl, sym, ap, ap₂, subst, _∙_}
 use mathlib.Core.List.{List, [], _∷_, _++_}
 use Prim.Native.Nat.{ℕ, suc, _+_, _≤_}
@@ -44,6 +44,10 @@ placed-is at xs t h = sets-eq xs t at h
 pub record Put (at : ℕ) (xs t : List ℕ) (next : ℕ) (u : List ℕ) : Type 0 where
   pub place : next ≡ at + length xs
   pub bytes : u ≡ placed at xs t
+
+-- nothing was written
+pub put-none : (at : ℕ) (t : List ℕ) → Put at [] t at t
+put-none at t = record { place = omega arith; bytes = placed-none at t }
 
 module _ {at next : ℕ} {xs t u : List ℕ} (p : Put at xs t next u) where
   -- and ys behind it

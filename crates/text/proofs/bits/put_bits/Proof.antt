@@ -1,13 +1,13 @@
--- `text::place::put_bits` meets its contract: writing what is left completes the text. Assumes nothing.
+-- `text::bits::put_bits` meets its contract: writing what is left completes the text. Assumes nothing.
 use mathlib.Core.Path.{_≡_, refl, sym, ap, _∙_}
 use Prim.Native.Nat.{ℕ, _+_, _-_, _≤_}
 use native.Mathlib.Omega.{arith}
 use lib.ListN.{length, drop, length-set}
 use Rattle.text.specs.BitText.{bitText, length-bits}
-use Rattle.text.specs.Put.{placed}
+use Rattle.place.specs.Put.{placed}
 use Rattle.text.proofs.Turns.{bit-turn, bits-done}
-use Rattle.text.proofs.place.put_bits.Statement.{statement}
-use Rattle.text.proofs.place.put_bits.Tie as tie
+use Rattle.text.proofs.bits.put_bits.Statement.{statement}
+use Rattle.text.proofs.bits.put_bits.Tie as tie
 
 abbrev Inv-loop : tie.InvT-loop
 Inv-loop out₀ at bits i₀ out i = (i ≤ length bits) × (length out ≡ length out₀) × (placed at (bitText bits) out₀ ≡ placed (at + i) (bitText (drop i bits)) out)

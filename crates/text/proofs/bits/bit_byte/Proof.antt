@@ -1,9 +1,9 @@
--- `text::place::bit_byte` meets its contract. Assumes nothing.
+-- `text::bits::bit_byte` meets its contract. Assumes nothing.
 use mathlib.Core.Path.{_≡_, refl}
 use Prim.Native.Nat.{ℕ, zero, suc}
 use Rattle.text.specs.BitText.{bitByte}
-use Rattle.text.proofs.place.bit_byte.Statement.{statement}
-use Rattle.text.proofs.place.bit_byte.Tie as tie
+use Rattle.text.proofs.bits.bit_byte.Statement.{statement}
+use Rattle.text.proofs.bits.bit_byte.Tie as tie
 
 one : (b : ℕ) → (b ≡ 0 → ⊥) → 49 ≡ bitByte b
 one zero x = absurd (x refl)

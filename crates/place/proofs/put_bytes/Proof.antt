@@ -1,12 +1,12 @@
--- `text::place::put_bytes` meets its contract: writing what is left completes the text. Assumes nothing.
+-- `place::put_bytes` meets its contract: writing what is left completes the text. Assumes nothing.
 use mathlib.Core.Path.{_≡_, refl, sym, ap, _∙_}
 use Prim.Native.Nat.{ℕ, _+_, _-_, _≤_}
 use native.Mathlib.Omega.{arith}
 use lib.ListN.{length, drop, length-set}
-use Rattle.text.specs.Put.{placed}
-use Rattle.text.proofs.Turns.{byte-turn, bytes-done}
-use Rattle.text.proofs.place.put_bytes.Statement.{statement}
-use Rattle.text.proofs.place.put_bytes.Tie as tie
+use Rattle.place.specs.Put.{placed}
+use Rattle.place.specs.Turns.{byte-turn, bytes-done}
+use Rattle.place.proofs.put_bytes.Statement.{statement}
+use Rattle.place.proofs.put_bytes.Tie as tie
 
 abbrev Inv-loop : tie.InvT-loop
 Inv-loop out₀ at bytes i₀ out i = (i ≤ length bytes) × (length out ≡ length out₀) × (placed at bytes out₀ ≡ placed (at + i) (drop i bytes) out)
