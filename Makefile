@@ -1,8 +1,8 @@
 # make look   the program on the sample within seconds, with nothing proved
 # make run    decode a record: the sample, or the file RECORD names
 # make test   prove everything and compare the library and the program with the references
-# make hosts  build the library and run the example hosts written in C
-# make bench  speed and instructions a block
+# make hosts  build the library and the tool make_record, and run the example hosts written in C
+# make bench  speed and instructions a block, and a record
 # make stored-records  what decode_records reads and must print, made again by the second reader and decoder
 # make clean
 
@@ -24,6 +24,9 @@ RECORD = crates/decode_job/stdin
 
 HOSTS = encode_extract decode_block display_early read_record decode_links
 
+# A host that takes its settings as arguments: it is built, and not run, by make hosts.
+TOOL = make_record
+
 .PHONY: look run test hosts bench stored-records clean
 
 # rt try takes the sources as they are: it asks for no proof.
@@ -41,14 +44,16 @@ run: $(PROGRAM)
 test:
 	tests/run-all
 
-hosts: $(HOSTS:%=$(OUT)/%)
+hosts: $(HOSTS:%=$(OUT)/%) $(OUT)/$(TOOL)
 	for host in $(HOSTS); do $(OUT)/$$host || exit 1; done
 
-bench: $(OUT)/bench_codec $(OUT)/bench_decoder
+bench: $(OUT)/bench_codec $(OUT)/bench_decoder $(OUT)/bench_records
 	$(OUT)/bench_codec
 	bench/instructions $(OUT)/bench_codec
 	$(OUT)/bench_decoder
 	bench/instructions_decoder $(OUT)/bench_decoder
+	$(OUT)/bench_records
+	bench/instructions_records $(OUT)/bench_records
 
 # The second encoder and extractor, the second decoder, and what draws codes.
 CODEC = tests/reference_codec.c tests/reference_transform.c
@@ -84,7 +89,7 @@ $(PROGRAM): $(PROVED)
 $(LIBRARY): $(PROVED)
 	$(call prove,staticlib caldurrex)
 
-$(HOSTS:%=$(OUT)/%): $(OUT)/%: examples/%.c include/caldurrex.h $(LIBRARY)
+$(HOSTS:%=$(OUT)/%) $(OUT)/$(TOOL): $(OUT)/%: examples/%.c include/caldurrex.h $(LIBRARY)
 	@mkdir -p $(OUT)
 	$(CC) $(CFLAGS) -pthread -Iinclude -o $@ $< $(LIBRARY)
 
@@ -101,6 +106,15 @@ BENCH_HEADERS = bench/plain_decoder.h bench/plain_tables.h include/caldurrex.h $
 $(OUT)/bench_decoder: $(BENCH_DECODER) $(BENCH_HEADERS) $(LIBRARY)
 	@mkdir -p $(OUT)
 	$(CC) $(CFLAGS) -O3 -Iinclude -Itests -o $@ $(BENCH_DECODER) $(LIBRARY)
+
+BENCH_RECORDS = bench/bench_records.c tests/decoder_calls.c tests/codec_calls.c tests/reference_writer.c \
+	tests/reference_job.c $(PAPER) $(CODES)
+BENCH_RECORDS_HEADERS = tests/decoder_calls.h tests/codec_calls.h tests/reference_writer.h tests/reference_job.h \
+	include/caldurrex.h $(PAPER_HEADERS) $(CODES_HEADERS)
+
+$(OUT)/bench_records: $(BENCH_RECORDS) $(BENCH_RECORDS_HEADERS) $(LIBRARY)
+	@mkdir -p $(OUT)
+	$(CC) $(CFLAGS) -Iinclude -Itests -o $@ $(BENCH_RECORDS) $(LIBRARY)
 
 $(OUT)/make_records: $(RECORDS) $(RECORDS_HEADERS)
 	@mkdir -p $(OUT)

@@ -1,6 +1,6 @@
 /*
  * Caldurrex: encoder, extractor and list decoder for convolutional polar codes and for
- * plain ones, by Arikan's transform, and a reader of job records.
+ * plain ones, by Arikan's transform, and a reader and a writer of job records.
  *
  * A code has n = 2^m positions, m from 2 to 10, and a frozen map of ceil(n/8)
  * bytes: bit i mod 8 of byte i div 8, counted from the low end, is 1 where
@@ -273,6 +273,58 @@ struct caldurrex_job caldurrex_read_job(const uint8_t *record, size_t record_len
                                         uint8_t *map, size_t map_len,
                                         int16_t *soft, size_t soft_len,
                                         uint8_t *pairs, size_t pairs_len);
+
+/* No job record is longer than this. */
+#define CALDURREX_RECORD_BYTES 3211
+
+/* What a call that writes a record answers. refusal is 0 if the record was written, and
+ * then length is the number of its bytes; else it is the number of the refusal, and length
+ * is 0. */
+struct caldurrex_length {
+    uint32_t refusal, length;
+};
+
+/*
+ * Writes a job record, as caldurrex_read_job has it.
+ *
+ * Each of the four fields is left out where its value is the one that its absence means: a
+ * list size of 4, a stop position of n, a frame number of 0, and no pairs. So the same
+ * settings always give the same bytes, and no record that says the same is shorter. A soft
+ * value of -2048 is written as -2047. caldurrex_read_job gives back every setting.
+ *
+ *   arikan     0 for the convolutional transform, any other byte for Arikan's
+ *   map        the frozen map, ceil(n/8) bytes
+ *   pairs      four bytes a pair
+ *   list_size  1 to 32
+ *   stop       0 to n
+ *   frame      any number
+ *   soft       n soft values from -2048 to 2047
+ *   record     at least as many bytes as the record has, for which CALDURREX_RECORD_BYTES
+ *              is always enough; the first become the record, and all behind it up to
+ *              record_len becomes 0
+ *
+ * The answer has the length of the record. Its refusal is 0, or the first of these that
+ * applies, in this order:
+ *
+ *   1   CALDURREX_BAD_M             m outside 2..10
+ *   2   CALDURREX_BAD_MAP_LENGTH    map_len is not ceil(n/8)
+ *   3   CALDURREX_BAD_MAP_BIT       a map bit past n is set
+ *   15  CALDURREX_BAD_PAIRS         as for caldurrex_encode
+ *   4   CALDURREX_BAD_LIST_SIZE     list_size outside 1..32
+ *   5   CALDURREX_BAD_STOP          stop above n
+ *   6   CALDURREX_BAD_INPUT_LENGTH  soft_len is not n
+ *   7   CALDURREX_BAD_SOFT_VALUE    a soft value outside -2048..2047
+ *   10  CALDURREX_SHORT_OUTPUT      record_len is below the length of the record
+ *
+ * A refused call writes nowhere.
+ */
+struct caldurrex_length caldurrex_write_job(uint32_t m, uint8_t arikan,
+                                            const uint8_t *map, size_t map_len,
+                                            const uint8_t *pairs, size_t pairs_len,
+                                            uint32_t list_size, uint32_t stop,
+                                            uint32_t frame,
+                                            const int16_t *soft, size_t soft_len,
+                                            uint8_t *record, size_t record_len);
 
 #ifdef __cplusplus
 }

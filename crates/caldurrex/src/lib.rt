@@ -5,10 +5,13 @@ mod fields;
 use fields::DecodedFields;
 use fields::fields_of;
 use job::JobFields;
+use job_writer::RecordLength;
 ghost use mathlib.Core.Path.{_≡_};
 ghost use Rattle.spec.specs.Code.{code};
 ghost use Rattle.spec.specs.Outcome.{written, encodeOutcome, extractOutcome, lent, decodeOutcome, readOutcome};
+ghost use Rattle.spec.specs.JobWriter.{fieldsOf, writeOutcome};
 ghost use Rattle.job.specs.Answer.{hostReading, forHost};
+ghost use Rattle.job_writer.specs.Answer.{hostWriting, lengthForHost};
 ghost use Rattle.caldurrex.specs.Choice.{chosen};
 ghost use Rattle.caldurrex.specs.Fields.{returned, asReturned};
 
@@ -88,4 +91,23 @@ pub extern "C" fn caldurrex_read_job(
         ≡ forHost (readOutcome (now (bytes .entry)) (now (map .entry)) (now (soft .entry)) (now (pairs .entry))) ⌝ }
 {
     job::read_job_fields(bytes, map, soft, pairs)
+}
+
+#[no_mangle]
+pub extern "C" fn caldurrex_write_job(
+    m: u32,
+    arikan: u8,
+    map: &[u8],
+    pairs: &[u8],
+    list: u32,
+    stop: u32,
+    frame: u32,
+    soft: &[i16],
+    bytes: &mut [u8],
+) -> RecordLength
+    ensures { λ r. ⌜ hostWriting r (now (bytes .exit))
+        ≡ lengthForHost (writeOutcome (fieldsOf (code m (chosen arikan) (now (map .entry)) (now (pairs .entry))) list stop frame (now (soft .entry)))
+        (now (bytes .entry))) ⌝ }
+{
+    job_writer::write_job_for_host(m, arikan != 0, map, pairs, list, stop, frame, soft, bytes)
 }

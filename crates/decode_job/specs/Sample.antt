@@ -11,7 +11,7 @@ use Rattle.spec.specs.Refusals.{pastEnd}
 use Rattle.spec.specs.Record.{softFrom}
 use Rattle.spec.specs.Score.{largest, score}
 use Rattle.spec.specs.Decoder.{children, liveBy, droppedBy, rows, ceilingBy}
-use Rattle.job.specs.Sample.{sample}
+use Rattle.spec.specs.RecordExample.{sample}
 use Rattle.text.specs.BitText.{bitText}
 use Rattle.text.specs.Decimal.{digits, decimal}
 use Rattle.row_text.specs.Output.{frameLine, rowLine}

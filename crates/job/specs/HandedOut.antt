@@ -10,11 +10,12 @@ use lib.IntN.{ℤ, pos, natAbs}
 use Rattle.spec.specs.Code.{code, mapBytes}
 use Rattle.spec.specs.Score.{taken}
 use Rattle.spec.specs.Faults.{first, settled, some}
-use Rattle.spec.specs.Refusals.{Room, outOfRange, tableFaults, decodeFaults}
+use Rattle.spec.specs.Refusals.{Room, outOfRange, codeFaults, runFaults, tableFaults, decodeFaults}
 use Rattle.spec.specs.Record.{exponent, isArikan, positions, listSize, stopPosition, pairCount, recordMap, recordPairs, recordCode, softAt, recordSoft, shapeFaults, fieldFaults}
 use Rattle.spec.specs.Outcome.{padded, Job, job, refusedJob, Reading, reading, readRefusal, readServed, readOutcome, decodeRefusal}
-use Rattle.laws.specs.FirstFault.{First, later, of-first, first-is, is-first, same, not-either}
-use Rattle.laws.specs.ListCost.{All, none, more}
+use Rattle.laws.specs.FirstFault.{First, none, later, of-first, first-is, is-first, end, next, found-after, same, not-either}
+use Rattle.laws.specs.ListCost as each
+use Rattle.laws.specs.ListCost.{All, more}
 use Rattle.laws.specs.Taken.{saturated-small, taken-range}
 use Rattle.job_fields.specs.Laid.{Shaped, length-map, length-pairs}
 use Rattle.job.specs.SoftValues.{length-soft}
@@ -39,32 +40,32 @@ module _ (s : List ℕ) (maps softs pairs : ℕ) (e : 0 ≡ readRefusal s maps s
   soft-at-front a =
       take-at (taken (recordSoft s)) (replicate (a - length (taken (recordSoft s))) (pos 0)) (positions s) (length-soft s (softAt s) (positions s))
 
+  -- a block that the decoder does not refuse for its code or its run: 1 to 7 and 15
+  pub block-accepted : First (codeFaults (recordCode s)) 0 × First (runFaults (positions s) (listSize s) (stopPosition s) (taken (recordSoft s))) 0
+  block-accepted = go faults
+    where
+      go : First (shapeFaults s ++ fieldFaults s maps softs pairs) 0
+          → First (codeFaults (recordCode s)) 0 × First (runFaults (positions s) (listSize s) (stopPosition s) (taken (recordSoft s))) 0
+      go (later _ (later _ (later _ (later m (later _ (later _ (later _ (later map (later part (later many (later rule (later l (later p (later y _)))))))))))))) =
+          let long-map = same (length (recordMap s)) (mapBytes (positions s)) (length-map shaped) in
+          let long-soft = same (length (taken (recordSoft s))) (positions s) (length-soft s (softAt s) (positions s)) in (
+            later m (later long-map (later map (later part (later many (later rule none))))),
+            later l (later p (later long-soft (later (taken-range (recordSoft s) ∙ y) none))),
+          )
+
   -- the decoder can refuse the block for the tables and outputs alone that are lent to it: 8 to 10
   pub block-refusal : (r : Room) → first (tableFaults (positions s) (listSize s) r)
       ≡ decodeRefusal (recordCode s) (listSize s) (stopPosition s) (taken (recordSoft s)) r
   unfolding decodeRefusal
-  block-refusal r = go faults
-    where
-      go : First (shapeFaults s ++ fieldFaults s maps softs pairs) 0 → first (tableFaults (positions s) (listSize s) r)
-          ≡ first (decodeFaults (recordCode s) (listSize s) (stopPosition s) (taken (recordSoft s)) r)
-      go (later _ (later _ (later _ (later m (later _ (later _ (later _ (later map (later part (later many (later rule (later l (later p (later y _)))))))))))))) =
-          is-first (decodeFaults (recordCode s) (listSize s) (stopPosition s) (taken (recordSoft s)) r) _
-          (later m
-          (later (same (length (recordMap s)) (mapBytes (positions s)) (length-map shaped))
-          (later map
-          (later part
-          (later many
-          (later rule
-          (later l
-          (later p
-          (later (same (length (taken (recordSoft s))) (positions s) (length-soft s (softAt s) (positions s)))
-          (later (taken-range (recordSoft s) ∙ y)
-          (first-is (tableFaults (positions s) (listSize s) r))))))))))))
+  block-refusal r =
+      is-first (decodeFaults (recordCode s) (listSize s) (stopPosition s) (taken (recordSoft s)) r) _
+      (found-after (next (next (next (next (next (next end)))))) (block-accepted .0)
+      (found-after (next (next (next (next end)))) (block-accepted .1) (first-is (tableFaults (positions s) (listSize s) r))))
 
 -- within ±2,047, where none is out of range, with zeros behind
 small-taken : (ys : List ℤ) (k : ℕ) → some outOfRange ys ≡ false → All (λ (y : ℤ). natAbs y ≤ 2047) (taken ys ++ replicate k (pos 0))
 unfolding some
-small-taken [] zero e = none
+small-taken [] zero e = each.none
 small-taken [] (suc k) e = more {x = pos 0} (omega arith) (small-taken [] k e)
 small-taken (y ∷ ys) k e =
     let r = not-either (outOfRange y) (some outOfRange ys) e in

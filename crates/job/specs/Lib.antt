@@ -2,7 +2,6 @@ pub mod Answer
 pub mod Calls
 pub mod SoftValues
 pub mod HandedOut
-pub mod RecordOf
 pub mod RecordParts
 pub mod ReadBack
 pub mod Sample

@@ -15,14 +15,15 @@ use Rattle.spec.specs.Score.{taken}
 use Rattle.spec.specs.Faults.{some}
 use Rattle.spec.specs.Refusals.{outOfRange, codeFaults}
 use Rattle.spec.specs.Record.{softFrom, fields, listSize, stopPosition, mapAt, countAt, pairsAt, pairCount, isArikan, recordCode, softAt, recordMap, recordSoft, shapeFaults, fieldFaults}
+use Rattle.spec.specs.RecordOf.{Field, absent, present, valueOr, PairField, unannounced, announced, pairsOf, Content, codeSaid, lowFirst, fieldBytes, fieldsByte, pairBytes, sixteenBits, softBytes, headOf, recordOf}
 use Rattle.spec.specs.Outcome.{padded, reading, job, readRefusal, readServed, readOutcome}
 use Rattle.laws.specs.FirstFault.{First, none, later, is-first, found-after, inside, same, not-either}
 use Rattle.laws.specs.Accepted.{Accepted, no-fault, size-small}
 use Rattle.laws.specs.Pairs.{pairs-long}
+use Rattle.laws.specs.WrittenForm.{length-softBytes}
 use Rattle.job_refusals.specs.Conditions.{recordCodeFaults, record-code-numbers}
 use Rattle.job.specs.Calls.{same-job, same-reading, read-served}
-use Rattle.job.specs.RecordOf.{Field, absent, present, valueOr, PairField, unannounced, announced, pairsOf, Content, codeSaid, lowFirst, fieldBytes, fieldsByte, pairBytes, sixteenBits, softBytes, headOf, recordOf}
-use Rattle.job.specs.RecordParts.{flag-back, bits-of, Headed, headed, Paired, paired, length-softBytes, soft-back}
+use Rattle.job.specs.RecordParts.{flag-back, bits-of, Headed, headed, Paired, paired, soft-back}
 
 -- what a record may say: the ranges of 01 and 02
 pub record Valid (c : Content) : Type 0 where
@@ -50,7 +51,7 @@ module _ (c : Content) where
   ahead = (head ++ c .map) ++ pairBytes (c .pairs)
 
   module _ (v : Valid c) where
-    head-of : Headed (fieldsByte c) (c .m) (c .size) (c .stop) (c .frame) s
+    pub head-of : Headed (fieldsByte c) (c .m) (c .size) (c .stop) (c .frame) s
     unfolding recordOf
     head-of =
         let b = bits-of c in
@@ -88,14 +89,14 @@ module _ (c : Content) where
     unfolding recordOf
     transform-back = ap (λ (b : ℕ). eqb b 1) (bits-of c .bit4) ∙ flag-back (c .arikan)
 
-    code-back : recordCode s ≡ codeSaid c
+    pub code-back : recordCode s ≡ codeSaid c
     unfolding recordOf
     code-back = same-code transform-back map-back (pairs-of .pairs-are)
       where
         same-code : {a a′ : Bool} {u u′ q q′ : List ℕ} → a ≡ a′ → u ≡ u′ → q ≡ q′ → code (c .m) a u q ≡ code (c .m) a′ u′ q′
         same-code i j k = rw (i, j, k)
 
-    values-back : recordSoft s ≡ c .soft
+    pub values-back : recordSoft s ≡ c .soft
     unfolding recordOf
     values-back =
         ap (softFrom s (softAt s)) (sym (v .values)) ∙ ap₂ (λ (s : List ℕ) (at : ℕ). softFrom s at (length (c .soft))) in-two soft-begins
@@ -183,14 +184,14 @@ unfolding some
 soft-bytes [] = refl
 soft-bytes (y ∷ ys) = some-append (ltb 255) (lowFirst 2 (sixteenBits y)) (softBytes ys) (lowFirst-bytes 2 (sixteenBits y)) (soft-bytes ys)
 
-pub record-bytes : (c : Content) → Valid c → aboveByte (c .map) ≡ false → aboveByte (pairsOf (c .pairs)) ≡ false → aboveByte (recordOf c) ≡ false
+pub record-bytes : (c : Content) → c .m ≤ 10 → aboveByte (c .map) ≡ false → aboveByte (pairsOf (c .pairs)) ≡ false → aboveByte (recordOf c) ≡ false
 unfolding recordOf some
-record-bytes c v e q =
+record-bytes c h e q =
     let known : fieldsByte c ≤ 255 = omega (arith, bits-of c .known) in
     let stand : aboveByte (fieldBytes 1 (c .size) ++ (fieldBytes 2 (c .stop) ++ fieldBytes 4 (c .frame))) ≡ false
     = some-append (ltb 255) (fieldBytes 1 (c .size)) (fieldBytes 2 (c .stop) ++ fieldBytes 4 (c .frame)) (field-bytes 1 (c .size))
     (some-append (ltb 255) (fieldBytes 2 (c .stop)) (fieldBytes 4 (c .frame)) (field-bytes 2 (c .stop)) (field-bytes 4 (c .frame))) in
     some-append (ltb 255) (head c) (rest c)
-    (ap₂ _||_ (le-ltb 255 (fieldsByte c) known) (ap₂ _||_ (le-ltb 255 (c .m) (omega (arith, v .accepts .high))) stand))
+    (ap₂ _||_ (le-ltb 255 (fieldsByte c) known) (ap₂ _||_ (le-ltb 255 (c .m) (omega arith)) stand))
     (some-append (ltb 255) (c .map) (pairBytes (c .pairs) ++ softBytes (c .soft)) e
     (some-append (ltb 255) (pairBytes (c .pairs)) (softBytes (c .soft)) (pair-bytes (c .pairs) q) (soft-bytes (c .soft))))

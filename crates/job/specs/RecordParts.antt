@@ -14,11 +14,11 @@ use Rattle.spec.specs.Code.{pairsIn}
 use Rattle.spec.specs.Faults.{some}
 use Rattle.spec.specs.Refusals.{outOfRange}
 use Rattle.spec.specs.Record.{twoAt, signed16, softFrom, ifPresent, fields, listSize, stopPosition, frameNumber, mapAt, countAt, pairsAt, pairCount, recordPairs, softAt}
+use Rattle.spec.specs.RecordOf.{Field, absent, present, valueOr, PairField, unannounced, announced, pairsOf, Content, lowFirst, fieldBit, pairBit, flagBit, fieldsByte, pairBytes, sixteenBits, softBytes, headOf}
 use Rattle.laws.specs.FirstFault.{not-either}
 use Rattle.laws.specs.Accepted.{Ruled}
 use Rattle.laws.specs.Pairs.{pairs-long}
 use Rattle.job_fields.specs.Signed.{signed-low, signed-high}
-use Rattle.job.specs.RecordOf.{Field, absent, present, valueOr, PairField, unannounced, announced, pairsOf, Content, lowFirst, fieldBit, pairBit, flagBit, fieldsByte, pairBytes, sixteenBits, softBytes, headOf}
 
 -- ---- numbers from their bytes
 one-byte : (x : ℕ) → x < 256 → x % 256 ≡ x
@@ -123,10 +123,6 @@ paired flags (announced q) pre rest s split place bit r =
     record { count-is = c; pairs-are = ap₂ take four behind ∙ take-append-seam q rest; ends-at = omega arith }
 
 -- ---- the soft values
-pub length-softBytes : (ys : List ℤ) → length (softBytes ys) ≡ 2 * length ys
-length-softBytes [] = refl
-length-softBytes (y ∷ ys) = omega (arith, length-softBytes ys)
-
 -- a value in range, from its 16 bits
 signed-back : (y : ℤ) → outOfRange y ≡ false → signed16 (sixteenBits y) ≡ y
 signed-back (pos k) e = sym (signed-low k (omega (arith, ltb-false 2047 k e)))

@@ -12,28 +12,7 @@ use Rattle.spec.specs.Faults.{first, some}
 use Rattle.spec.specs.Refusals.{pastEnd}
 use Rattle.spec.specs.Record.{softFrom}
 use Rattle.spec.specs.Outcome.{reading, job, refusedJob, readRefusal, readServed, readOutcome}
-use Rattle.job.specs.RecordOf.{absent, present, unannounced, Content, recordOf}
-
--- 01 02 02 03 05 00 FD FF 02 00 07 00
-unfoldable pub sample : List ℕ
-sample = 1 ∷ 2 ∷ 2 ∷ 3 ∷ 5 ∷ 0 ∷ 253 ∷ 255 ∷ 2 ∷ 0 ∷ 7 ∷ 0 ∷ []
-
--- list size 2, positions 0 and 1 frozen, soft values 5, -3, 2, 7; what is absent: stop position 4, frame 0, no pairs
-unfoldable pub said : Content
-said = record {
-  m = 2;
-  arikan = false;
-  size = present 2;
-  stop = absent;
-  frame = absent;
-  map = 3 ∷ [];
-  pairs = unannounced;
-  soft = pos 5 ∷ negsuc 2 ∷ pos 2 ∷ pos 7 ∷ [];
-}
-
-pub sample-built : recordOf said ≡ sample
-unfolding recordOf said sample
-sample-built = refl
+use Rattle.spec.specs.RecordExample.{sample}
 
 -- read into slices of 2 bytes, 5 numbers and 1 byte
 pub sample-read : readOutcome sample (9 ∷ 9 ∷ []) (pos 9 ∷ pos 9 ∷ pos 9 ∷ pos 9 ∷ pos 9 ∷ []) (9 ∷ [])

@@ -25,5 +25,7 @@ pub mod PairRuns
 pub mod Inputs
 pub mod Accepted
 pub mod DecodeCall
+pub mod WriteCall
+pub mod WrittenForm
 pub mod FullScale
 pub mod ScoreOfChildren

@@ -1,8 +1,11 @@
-// Numbers of one, two and four bytes, low byte first.
+// Numbers of one, two and four bytes, low byte first: read from a slice, and put into one.
 ghost use mathlib.Core.Path.{_≡_};
-ghost use Prim.Native.Nat.{_+_, _<_};
+ghost use Prim.Native.Nat.{_+_, _%_, _≤_, _<_};
 ghost use lib.ListN.{length};
 ghost use Rattle.spec.specs.Record.{twoAt, fourAt};
+ghost use Rattle.spec.specs.RecordOf.{lowFirst};
+ghost use Rattle.place.specs.Put.{Put};
+use place::put_byte;
 
 pub fn wide(x: u8) -> u32
     ensures { λ r. ⌜ (r ≡ x) × (r < 256) ⌝ }
@@ -22,4 +25,28 @@ pub fn four(bytes: &[u8], at: usize) -> u32
     ensures { λ r. ⌜ r ≡ fourAt (now (bytes .entry)) at ⌝ }
 {
     two(bytes, at) + 65536 * two(bytes, at + 2)
+}
+
+pub fn low_byte(x: u32) -> u8
+    ensures { λ r. ⌜ r ≡ x % 256 ⌝ }
+{
+    (x % 256) as u8
+}
+
+// The two low bytes of x, from a place on. Returns the place behind them.
+pub fn put_two(out: &mut [u8], at: usize, x: u32) -> usize
+    requires { ⌜ at + 2 ≤ length (now out) ⌝ }
+    ensures { λ r. ⌜ (Put at (lowFirst 2 x) (now (out .entry)) r (now (out .exit))) × (r ≤ at + 2) ⌝ }
+{
+    let next = put_byte(out, at, low_byte(x));
+    put_byte(out, next, low_byte(x / 256))
+}
+
+// All four bytes of x.
+pub fn put_four(out: &mut [u8], at: usize, x: u32) -> usize
+    requires { ⌜ at + 4 ≤ length (now out) ⌝ }
+    ensures { λ r. ⌜ (Put at (lowFirst 4 x) (now (out .entry)) r (now (out .exit))) × (r ≤ at + 4) ⌝ }
+{
+    let next = put_two(out, at, x);
+    put_two(out, next, x / 256 / 256)
 }

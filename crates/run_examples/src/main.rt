@@ -6,6 +6,7 @@ mod decoding;
 mod lines;
 mod lists;
 mod say;
+mod writing;
 
 use coding::code_line;
 use decoding::decode_line;
@@ -13,13 +14,16 @@ use lines::byte_at;
 use lines::find;
 use lines::word_end;
 use say::say;
+use writing::write_line;
 
-// The second letter tells the names encode, extract and decode apart.
+// The second letter tells the names encode, extract, decode and write apart.
 fn run_call(call: &[u8]) {
     let letter = byte_at(call, 3);
     let at = word_end(call, 1);
     if letter == b'e' {
         decode_line(call, at);
+    } else if letter == b'r' {
+        write_line(call, at);
     } else if letter != 0 {
         code_line(letter == b'x', call, at);
     }

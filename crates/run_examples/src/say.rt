@@ -42,3 +42,19 @@ pub(crate) fn say_bytes(text: &[u8], bytes: &[u8]) {
     say(text);
     say_all(bytes);
 }
+
+// A space and the number of a byte.
+fn say_apart(x: u8) {
+    say(b" ");
+    say_byte(x);
+}
+
+// A text and the number of each byte, a space before each.
+pub(crate) fn say_spaced(text: &[u8], bytes: &[u8]) {
+    say(text);
+    let mut i = 0;
+    while i < bytes.len() {
+        say_apart(bytes[i]);
+        i += 1;
+    }
+}

@@ -6,7 +6,11 @@ pub mod Decoder
 pub mod Faults
 pub mod Refusals
 pub mod Record
+pub mod RecordOf
+pub mod RecordExample
 pub mod Outcome
+pub mod JobWriter
+pub mod WriterExamples
 pub mod SignedOrder
 pub mod ScoreIsLargest
 pub mod OrderIsTotal

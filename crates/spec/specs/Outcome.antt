@@ -116,3 +116,15 @@ unfoldable pub readOutcome : List ℕ → List ℕ → List ℤ → List ℕ →
 readOutcome s map soft pairs =
     settled (readRefusal s (length map) (length soft) (length pairs)) (λ k. reading (refusedJob k) map soft pairs)
     (readServed s (length map) (length soft) (length pairs))
+
+-- ---- record writers: the length of the record that was written, or the refusal number, and the output
+pub data Length : Type 0 where
+  long : ℕ → Length
+  refusedLength : ℕ → Length
+
+pub record Writing : Type 0 where
+  pub answer : Length
+  pub output : List ℕ
+
+abbrev pub writing : Length → List ℕ → Writing
+writing a out = record { answer = a; output = out }

@@ -11,6 +11,9 @@ word-end-requires c κs = tt
 decode-line-requires : tie.Need-decode-line-requires
 decode-line-requires c κs = tt
 
+write-line-requires : tie.Need-write-line-requires
+write-line-requires c κs = tt
+
 code-line-requires : tie.Need-code-line-requires
 code-line-requires c κs = tt
 
@@ -23,6 +26,9 @@ returns-2 c = tt
 returns-3 : tie.Need-returns-3
 returns-3 c = tt
 
+returns-4 : tie.Need-returns-4
+returns-4 c = tt
+
 pub run-call-spec : {M : Type 1} → statement M
 run-call-spec =
     tie.close
@@ -30,7 +36,9 @@ run-call-spec =
     byte-at-requires
     word-end-requires
     decode-line-requires
+    write-line-requires
     code-line-requires
     returns
     returns-2
-    returns-3)
+    returns-3
+    returns-4)

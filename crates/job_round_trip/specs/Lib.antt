@@ -1,0 +1,4 @@
+pub mod WrittenBack
+pub mod NeverLonger
+pub mod OneForm
+pub mod WrittenBytes

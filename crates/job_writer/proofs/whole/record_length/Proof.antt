@@ -1,0 +1,85 @@
+-- `job_writer::whole::record_length` meets its contract: the lengths of its parts. Assumes nothing.
+use mathlib.Core.Path.{_≡_, ap, _∙_}
+use mathlib.Core.Bool.{Bool, true}
+use Prim.Native.Nat.{ℕ, _+_, _*_, _^_}
+use native.Mathlib.Omega.{arith}
+use borrow.Author.Needs.{needs}
+use Rattle.spec.specs.Code.{code}
+use Rattle.spec.specs.RecordOf.{fieldBit}
+use Rattle.spec.specs.JobWriter.{Fields, fieldsOf, unless}
+use Rattle.laws.specs.WrittenForm.{written-length, Bounded, bounded}
+use Rattle.job_writer.proofs.whole.record_length.Statement.{statement}
+use Rattle.job_writer.proofs.whole.record_length.Tie as tie
+
+abbrev given : tie.Start → Bool → Fields
+given s a = let x = s .args in fieldsOf (code (x .m) a (x .map .now) (x .pairs .now)) (x .l) (x .p) (x .frame) (x .soft .now)
+
+bounds : (s : tie.Start) → Bounded (given s true)
+bounds s = bounded (given s true) (s .pre true)
+
+abbrev start : tie.After-pair-bit → tie.Start
+start c = c .before .before .before .before .before
+
+size-requires : tie.Need-size-requires
+size-requires c κs = bounds (c .before .before) .exponent
+
+cast-head-length : tie.Need-cast-head-length
+cast-head-length c = omega arith
+
+head-length-requires : tie.Need-head-length-requires
+head-length-requires c κs = search needs
+
+pair-bit-requires : tie.Need-pair-bit-requires
+pair-bit-requires c κs = search needs
+
+add-result : tie.Need-add-result
+add-result c = omega (arith, bounds (start c) .map, bounds (start c) .pairs, bounds (start c) .few-soft)
+
+cast-result : tie.Need-cast-result
+cast-result c = omega (arith, bounds (start c) .map, bounds (start c) .pairs, bounds (start c) .few-soft)
+
+mul-result : tie.Need-mul-result
+mul-result c = omega (arith, bounds (start c) .map, bounds (start c) .pairs, bounds (start c) .few-soft)
+
+add-result-2 : tie.Need-add-result-2
+add-result-2 c = omega (arith, bounds (start c) .map, bounds (start c) .pairs, bounds (start c) .few-soft)
+
+add-result-3 : tie.Need-add-result-3
+add-result-3 c = omega (arith, bounds (start c) .map, bounds (start c) .pairs, bounds (start c) .few-soft)
+
+mul-result-2 : tie.Need-mul-result-2
+mul-result-2 c = omega (arith, bounds (start c) .map, bounds (start c) .pairs, bounds (start c) .few-soft)
+
+add-result-4 : tie.Need-add-result-4
+add-result-4 c = omega (arith, bounds (start c) .map, bounds (start c) .pairs, bounds (start c) .few-soft)
+
+-- what stands before the map, over the size that was computed
+ahead : (c : tie.After-pair-bit) → let x = start c .args in
+    c .before .head-length .result ≡ 2 + fieldBit (unless 4 (x .l)) + 2 * fieldBit (unless (2 ^ x .m) (x .p)) + 4 * fieldBit (unless 0 (x .frame))
+ahead c =
+    let x = start c .args in
+    c .before .head-length .ensures .0
+    ∙ ap (λ (n : ℕ). 2 + fieldBit (unless 4 (x .l)) + 2 * fieldBit (unless n (x .p)) + 4 * fieldBit (unless 0 (x .frame))) (c .before .before .size .ensures .0)
+
+returns : tie.Need-returns
+returns c = (
+  λ a. omega (arith, ahead c, c .pair-bit .ensures .0, written-length (given (start c) a)),
+  omega (arith, bounds (start c) .map, bounds (start c) .pairs, bounds (start c) .few-soft),
+)
+
+pub record-length-spec : {M : Type 1} → statement M
+record-length-spec =
+    tie.close
+    (tie.spec
+    size-requires
+    cast-head-length
+    head-length-requires
+    pair-bit-requires
+    add-result
+    cast-result
+    mul-result
+    add-result-2
+    add-result-3
+    mul-result-2
+    add-result-4
+    returns)
