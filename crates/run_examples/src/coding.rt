@@ -40,7 +40,7 @@ pub(crate) fn code_line(extracts: bool, line: &[u8], at: usize) {
     let mut map = [0u8; 2];
     let mut pairs = [0u8; 16];
     let mut given = [0u8; 16];
-    let from = read_fields(line, at, &mut fields);
+    let from = read_fields(line, at, 3, &mut fields);
     let a = read_bytes(line, from, &mut map);
     let q = read_bytes(line, a.at, &mut pairs);
     let b = read_bytes(line, q.at, &mut given);

@@ -1,8 +1,5 @@
 // Calls of the decoder: the refusal, or the rows.
 use crate::lines::least;
-use crate::lists::read_bytes;
-use crate::lists::read_fields;
-use crate::lists::read_soft;
 use crate::say::say;
 use crate::say::say_bytes;
 use crate::say::say_number;
@@ -56,7 +53,7 @@ pub(crate) struct Asked {
     pub scores: usize,
 }
 
-fn read_asked(fields: &[u32]) -> Asked
+pub(crate) fn read_asked(fields: &[u32]) -> Asked
     requires { ⌜ length (now fields) ≡ 9 ⌝ }
     ensures { λ r. ⌜ (r .numbers ≤ 512) × (r .bytes ≤ 320) × (r .inputs ≤ 16) × (r .words ≤ 16) × (r .scores ≤ 1) ⌝ }
 {
@@ -73,7 +70,7 @@ fn read_asked(fields: &[u32]) -> Asked
     }
 }
 
-fn decode_asked(map: &[u8], pairs: &[u8], soft: &[i16], x: Asked)
+pub(crate) fn decode_asked(map: &[u8], pairs: &[u8], soft: &[i16], x: Asked)
     requires { ⌜ (x .numbers ≤ 512) × (x .bytes ≤ 320) × (x .inputs ≤ 16) × (x .words ≤ 16) × (x .scores ≤ 1) ⌝ }
 {
     let a = x.numbers;
@@ -106,22 +103,4 @@ fn decode_asked(map: &[u8], pairs: &[u8], soft: &[i16], x: Asked)
         scores,
     );
     say_decoded(answer, inputs, words, scores);
-}
-
-// The numbers, at most 2 bytes of map, 16 of pairs and 16 soft values.
-pub(crate) fn decode_line(line: &[u8], at: usize) {
-    let mut fields = [0u32; 9];
-    let mut map = [0u8; 2];
-    let mut pairs = [0u8; 16];
-    let mut soft = [0i16; 16];
-    let from = read_fields(line, at, &mut fields);
-    let a = read_bytes(line, from, &mut map);
-    let q = read_bytes(line, a.at, &mut pairs);
-    let b = read_soft(line, q.at, &mut soft);
-    decode_asked(
-        &map[..a.len],
-        &pairs[..q.len],
-        &soft[..b],
-        read_asked(&fields),
-    );
 }

@@ -4,11 +4,13 @@ use crate::lines::word_end;
 ghost use Prim.Native.Nat.{_≤_};
 ghost use lib.ListN.{length};
 
-// As many labels with a number each as there is room for. Returns the place behind them.
-pub(crate) fn read_fields(line: &[u8], from: usize, fields: &mut [u32]) -> usize {
+// So many labels with a number each. Returns the place behind them.
+pub(crate) fn read_fields(line: &[u8], from: usize, count: usize, fields: &mut [u32]) -> usize
+    requires { ⌜ count ≤ length (now fields) ⌝ }
+{
     let mut at = from;
     let mut i = 0;
-    while i < fields.len() {
+    while i < count {
         let x = next(line, word_end(line, at));
         fields[i] = x.value;
         at = x.at;

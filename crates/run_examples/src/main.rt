@@ -1,6 +1,7 @@
 // Makes the calls of its input, one a line, and prints what each gave. A line is a description, a colon, the call's name and what the
 // call is given: labels and numbers, one space before each. The description is printed in front of the answer, and a line with no colon
 // is printed alone. Everything lent holds 5 before the call.
+mod blocks;
 mod coding;
 mod decoding;
 mod lines;
@@ -8,22 +9,21 @@ mod lists;
 mod say;
 mod writing;
 
+use blocks::block_line;
 use coding::code_line;
-use decoding::decode_line;
 use lines::byte_at;
 use lines::find;
 use lines::word_end;
 use say::say;
-use writing::write_line;
 
 // The second letter tells the names encode, extract, decode and write apart.
 fn run_call(call: &[u8]) {
     let letter = byte_at(call, 3);
     let at = word_end(call, 1);
     if letter == b'e' {
-        decode_line(call, at);
+        block_line(false, call, at);
     } else if letter == b'r' {
-        write_line(call, at);
+        block_line(true, call, at);
     } else if letter != 0 {
         code_line(letter == b'x', call, at);
     }

@@ -1,8 +1,5 @@
 // Calls of the job writer: the length or the refusal, and the output.
 use crate::lines::least;
-use crate::lists::read_bytes;
-use crate::lists::read_fields;
-use crate::lists::read_soft;
 use crate::say::say_number;
 use crate::say::say_spaced;
 use job_writer::Length;
@@ -18,8 +15,8 @@ fn say_length(answer: Length) {
     }
 }
 
-// What a call is given in numbers: m, the choice of the transform, l, p and the frame number, and how long the output is.
-pub(crate) struct Asked {
+// What a call is given in numbers, the first six: m, the choice of the transform, l, p and the frame number, and how long the output is.
+pub(crate) struct Told {
     pub m: u32,
     pub arikan: bool,
     pub l: u32,
@@ -28,11 +25,11 @@ pub(crate) struct Asked {
     pub len: usize,
 }
 
-fn read_asked(fields: &[u32]) -> Asked
-    requires { ⌜ length (now fields) ≡ 6 ⌝ }
+pub(crate) fn read_told(fields: &[u32]) -> Told
+    requires { ⌜ length (now fields) ≡ 9 ⌝ }
     ensures { λ r. ⌜ r .len ≤ 48 ⌝ }
 {
-    Asked {
+    Told {
         m: fields[0],
         arikan: fields[1] != 0,
         l: fields[2],
@@ -42,7 +39,7 @@ fn read_asked(fields: &[u32]) -> Asked
     }
 }
 
-fn write_asked(map: &[u8], pairs: &[u8], soft: &[i16], x: Asked)
+pub(crate) fn write_told(map: &[u8], pairs: &[u8], soft: &[i16], x: Told)
     requires { ⌜ x .len ≤ 48 ⌝ }
 {
     let len = x.len;
@@ -51,22 +48,4 @@ fn write_asked(map: &[u8], pairs: &[u8], soft: &[i16], x: Asked)
     let answer = write_job(x.m, x.arikan, map, pairs, x.l, x.p, x.frame, soft, output);
     say_length(answer);
     say_spaced(b", output", output);
-}
-
-// The numbers, at most 2 bytes of map, 16 of pairs and 16 soft values.
-pub(crate) fn write_line(line: &[u8], at: usize) {
-    let mut fields = [0u32; 6];
-    let mut map = [0u8; 2];
-    let mut pairs = [0u8; 16];
-    let mut soft = [0i16; 16];
-    let from = read_fields(line, at, &mut fields);
-    let a = read_bytes(line, from, &mut map);
-    let q = read_bytes(line, a.at, &mut pairs);
-    let b = read_soft(line, q.at, &mut soft);
-    write_asked(
-        &map[..a.len],
-        &pairs[..q.len],
-        &soft[..b],
-        read_asked(&fields),
-    );
 }

@@ -8,11 +8,11 @@ byte-at-requires c κs = tt
 word-end-requires : tie.Need-word-end-requires
 word-end-requires c κs = tt
 
-decode-line-requires : tie.Need-decode-line-requires
-decode-line-requires c κs = tt
+block-line-requires : tie.Need-block-line-requires
+block-line-requires c κs = tt
 
-write-line-requires : tie.Need-write-line-requires
-write-line-requires c κs = tt
+block-line-requires-2 : tie.Need-block-line-requires-2
+block-line-requires-2 c κs = tt
 
 code-line-requires : tie.Need-code-line-requires
 code-line-requires c κs = tt
@@ -35,8 +35,8 @@ run-call-spec =
     (tie.spec
     byte-at-requires
     word-end-requires
-    decode-line-requires
-    write-line-requires
+    block-line-requires
+    block-line-requires-2
     code-line-requires
     returns
     returns-2

@@ -11,7 +11,7 @@ slice-aggregate-read-fields : tie.Need-slice-aggregate-read-fields
 slice-aggregate-read-fields c = search needs
 
 read-fields-requires : tie.Need-read-fields-requires
-read-fields-requires c κs = tt
+read-fields-requires c κs = search needs
 
 slice-aggregate-read-bytes : tie.Need-slice-aggregate-read-bytes
 slice-aggregate-read-bytes c = search needs

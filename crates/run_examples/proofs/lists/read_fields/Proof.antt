@@ -8,10 +8,10 @@ use Rattle.run_examples.proofs.lists.read_fields.Statement.{statement}
 use Rattle.run_examples.proofs.lists.read_fields.Tie as tie
 
 abbrev Inv-loop : tie.InvT-loop
-Inv-loop line from fields₀ at₀ i₀ fields at i = (i ≤ length fields₀) × (length fields ≡ length fields₀)
+Inv-loop line from count fields₀ at₀ i₀ fields at i = (i ≤ count) × (count ≤ length fields₀) × (length fields ≡ length fields₀)
 
 abbrev μ-loop : tie.MeasureT-loop
-μ-loop line from fields₀ at₀ i₀ fields at i = length fields₀ - i
+μ-loop line from count fields₀ at₀ i₀ fields at i = count - i
 
 loop-holds : tie.Need-loop-holds Inv-loop μ-loop
 loop-holds c = search needs

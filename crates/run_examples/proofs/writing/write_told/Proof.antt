@@ -1,9 +1,9 @@
--- `run_examples::writing::write_asked` is safe: the output is as long as asked. Assumes nothing.
+-- `run_examples::writing::write_told` is safe: the output is as long as asked. Assumes nothing.
 use native.Mathlib.Omega.{arith}
 use borrow.Author.Needs.{needs}
 use Rattle.run_examples.proofs.Lengths.{part-length}
-use Rattle.run_examples.proofs.writing.write_asked.Statement.{statement}
-use Rattle.run_examples.proofs.writing.write_asked.Tie as tie
+use Rattle.run_examples.proofs.writing.write_told.Statement.{statement}
+use Rattle.run_examples.proofs.writing.write_told.Tie as tie
 
 array-borrow-prefix-space : tie.Need-array-borrow-prefix-space
 array-borrow-prefix-space c = search needs
@@ -26,8 +26,8 @@ say-spaced-requires c κs = tt
 returns : tie.Need-returns
 returns c = tt
 
-pub write-asked-spec : {M : Type 1} → statement M
-write-asked-spec =
+pub write-told-spec : {M : Type 1} → statement M
+write-told-spec =
     tie.close
     (tie.spec
     array-borrow-prefix-space
