@@ -236,7 +236,29 @@ static void take_soft(void)
 
 /* ---- the record */
 
-/* What a refusal of the writer means. */
+/* Number i of the pairs' bytes: f and e by turns. */
+static unsigned part(size_t i)
+{
+    return pairs[2 * i] + 256u * pairs[2 * i + 1];
+}
+
+/* The first pair that breaks a rule, and which. */
+_Noreturn static void explain_pairs(void)
+{
+    for (size_t i = 0; 2 * i < pairs_len; i += 2) {
+        unsigned f = part(i), e = part(i + 1);
+        if (f >= n || !(map[f / 8] >> (f % 8) & 1))
+            die("pair %u:%u: %u is no frozen position; give pairs f:e with f frozen and e below f", f, e, f);
+        if (e >= f)
+            die("pair %u:%u: %u is not below %u; give pairs f:e with f frozen and e below f", f, e, e, f);
+        if (i > 0 && (f < part(i - 2) || (f == part(i - 2) && e <= part(i - 1))))
+            die("pair %u:%u comes behind %u:%u; give the pairs rising by f, then by e, each once", f, e, part(i - 2), part(i - 1));
+    }
+    die("the library refuses the pairs; build this tool with that library");
+}
+
+/* What a refusal of the writer means. What else it refuses for cannot come with settings that
+ * were taken. */
 _Noreturn static void explain(uint32_t refusal)
 {
     unsigned long m = number[M], list = number[LIST], stop = number[STOP];
@@ -244,17 +266,9 @@ _Noreturn static void explain(uint32_t refusal)
     case CALDURREX_BAD_M: die("m=%lu is out of range; give %s", m, due[M]);
     case CALDURREX_BAD_LIST_SIZE: die("list=%lu is out of range; give %s", list, due[LIST]);
     case CALDURREX_BAD_STOP: die("stop=%lu is above n = %zu; give %s", stop, n, due[STOP]);
-    case CALDURREX_BAD_INPUT_LENGTH: die("there are not n soft values; give n = %zu of them", n);
-    case CALDURREX_BAD_SOFT_VALUE: die("a soft value is out of range; give %s", due[SOFT]);
-    case CALDURREX_BAD_PAIRS:
-        die("the pairs break a rule; give each as f:e with f frozen and e below f, rising by f, then by e, none twice");
-    default: break;
+    case CALDURREX_BAD_PAIRS: explain_pairs();
+    default: die("the library refuses with %lu; build this tool with that library", (unsigned long)refusal);
     }
-    const char *meaning = refusal == CALDURREX_BAD_MAP_LENGTH ? "the frozen map is not ceil(n/8) bytes"
-                          : refusal == CALDURREX_BAD_MAP_BIT  ? "a map bit past n is set"
-                          : refusal == CALDURREX_SHORT_OUTPUT ? "there is no room for the record"
-                                                              : "which this tool does not know";
-    die("the library refuses with %lu, %s; build this tool with that library", (unsigned long)refusal, meaning);
 }
 
 static void take_settings(void)
