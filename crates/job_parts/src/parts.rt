@@ -2,7 +2,7 @@
 use crate::options::put_options;
 use crate::soft::put_soft;
 use numbers::low_byte;
-use numbers::put_two;
+use numbers::put_low;
 use place::put_byte;
 use place::put_bytes;
 ghost use mathlib.Core.Path.{_≡_};
@@ -35,7 +35,7 @@ fn put_pairs(out: &mut [u8], at: usize, pairs: &[u8]) -> usize
     if pairs.len() == 0 {
         return at;
     }
-    let next = put_two(out, at, (pairs.len() / 4) as u32);
+    let next = put_low(out, at, 2, (pairs.len() / 4) as u32);
     put_bytes(out, next, pairs)
 }
 

@@ -1,5 +1,5 @@
 // The soft values of a record, two bytes each, written into a buffer from a place on.
-use numbers::put_two;
+use numbers::put_low;
 use ranges::taken_at;
 ghost use mathlib.Core.Path.{_≡_};
 ghost use mathlib.Core.Bool.{false};
@@ -41,7 +41,7 @@ pub(crate) fn put_soft(out: &mut [u8], at: usize, soft: &[i16]) -> usize
     let mut i = 0;
     while i < soft.len() {
         let x = taken_bits(soft, i);
-        next = put_two(out, next, x);
+        next = put_low(out, next, 2, x);
         i += 1;
     }
     next

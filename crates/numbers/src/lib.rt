@@ -33,20 +33,18 @@ pub fn low_byte(x: u32) -> u8
     (x % 256) as u8
 }
 
-// The two low bytes of x, from a place on. Returns the place behind them.
-pub fn put_two(out: &mut [u8], at: usize, x: u32) -> usize
-    requires { ⌜ at + 2 ≤ length (now out) ⌝ }
-    ensures { λ r. ⌜ (Put at (lowFirst 2 x) (now (out .entry)) r (now (out .exit))) × (r ≤ at + 2) ⌝ }
+// The low bytes of x, so many, from a place on. Returns the place behind them.
+pub fn put_low(out: &mut [u8], at: usize, count: usize, x: u32) -> usize
+    requires { ⌜ at + count ≤ length (now out) ⌝ }
+    ensures { λ r. ⌜ (Put at (lowFirst count x) (now (out .entry)) r (now (out .exit))) × (r ≤ at + count) ⌝ }
 {
-    let next = put_byte(out, at, low_byte(x));
-    put_byte(out, next, low_byte(x / 256))
-}
-
-// All four bytes of x.
-pub fn put_four(out: &mut [u8], at: usize, x: u32) -> usize
-    requires { ⌜ at + 4 ≤ length (now out) ⌝ }
-    ensures { λ r. ⌜ (Put at (lowFirst 4 x) (now (out .entry)) r (now (out .exit))) × (r ≤ at + 4) ⌝ }
-{
-    let next = put_two(out, at, x);
-    put_two(out, next, x / 256 / 256)
+    let mut rest = x;
+    let mut next = at;
+    let mut i = 0;
+    while i < count {
+        next = put_byte(out, next, low_byte(rest));
+        rest = rest / 256;
+        i += 1;
+    }
+    next
 }

@@ -5,14 +5,14 @@ use Rattle.place.specs.Put.{then}
 use Rattle.job_parts.proofs.options.put_options.Statement.{statement}
 use Rattle.job_parts.proofs.options.put_options.Tie as tie
 
-put-list-size-requires : tie.Need-put-list-size-requires
-put-list-size-requires c κs = omega arith
+put-unless-requires : tie.Need-put-unless-requires
+put-unless-requires c κs = omega arith
 
-put-stop-requires : tie.Need-put-stop-requires
-put-stop-requires c κs = omega arith
+put-unless-requires-2 : tie.Need-put-unless-requires-2
+put-unless-requires-2 c κs = omega arith
 
-put-frame-requires : tie.Need-put-frame-requires
-put-frame-requires c κs = omega arith
+put-unless-requires-3 : tie.Need-put-unless-requires-3
+put-unless-requires-3 c κs = omega arith
 
 same-length : tie.Need-same-length
 same-length c = search needs
@@ -22,16 +22,16 @@ returns c =
     let frame = c .before .before in
     let stop = frame .before .before .before .before in
     let size = stop .before .before .before .before in (
-      then (size .put-list-size .ensures .0) (then (stop .put-stop .ensures .0) (frame .put-frame .ensures .0)),
-      omega (arith, size .put-list-size .ensures .1, stop .put-stop .ensures .1, frame .put-frame .ensures .1),
+      then (size .put-unless .ensures .0) (then (stop .put-unless2 .ensures .0) (frame .put-unless3 .ensures .0)),
+      omega (arith, size .put-unless .ensures .1, stop .put-unless2 .ensures .1, frame .put-unless3 .ensures .1),
     )
 
 pub put-options-spec : {M : Type 1} → statement M
 put-options-spec =
     tie.close
     (tie.spec
-    put-list-size-requires
-    put-stop-requires
-    put-frame-requires
+    put-unless-requires
+    put-unless-requires-2
+    put-unless-requires-3
     same-length
     returns)

@@ -18,11 +18,11 @@ returns c =
     let a = c .before .before .before .args in
     put-same (put-none (a .at) (a .out .now)) (sym (ap pairBytes (no-pairs (a .pairs .now) (c .if1 .taken))))
 
-cast-put-two : tie.Need-cast-put-two
-cast-put-two c = omega arith
+cast-put-low : tie.Need-cast-put-low
+cast-put-low c = omega arith
 
-put-two-requires : tie.Need-put-two-requires
-put-two-requires c κs = omega arith
+put-low-requires : tie.Need-put-low-requires
+put-low-requires c κs = omega arith
 
 put-bytes-requires : tie.Need-put-bytes-requires
 put-bytes-requires c κs = omega arith
@@ -38,7 +38,7 @@ returns-2 c =
     let s = test .before .before .before in
     let q = s .args .pairs .now in
     let e : length q / 4 ≡ length (pairsIn q) = omega (arith, pairs-long q (s .pre .0)) in
-    put-same (then (count .put-two .ensures .0) (bytes .put-bytes .ensures .0))
+    put-same (then (count .put-low .ensures .0) (bytes .put-bytes .ensures .0))
     (ap (λ (k : ℕ). lowFirst 2 k ++ q) e ∙ sym (ap pairBytes (some-pairs q (test .if1 .left))))
 
 pub put-pairs-spec : {M : Type 1} → statement M
@@ -46,8 +46,8 @@ put-pairs-spec =
     tie.close
     (tie.spec
     returns
-    cast-put-two
-    put-two-requires
+    cast-put-low
+    put-low-requires
     put-bytes-requires
     same-length
     returns-2)

@@ -35,8 +35,8 @@ loop-holds c =
 taken-bits-requires : tie.Need-taken-bits-requires Inv-loop μ-loop
 taken-bits-requires c κs = search needs
 
-put-two-requires : tie.Need-put-two-requires Inv-loop μ-loop
-put-two-requires c κs = omega arith
+put-low-requires : tie.Need-put-low-requires Inv-loop μ-loop
+put-low-requires c κs = omega arith
 
 add-i : tie.Need-add-i Inv-loop μ-loop
 add-i c = omega arith
@@ -52,7 +52,7 @@ loop-again c =
     let l = test .before in
     let soft = l .before .before .args .soft .now in
     let i = l .loop .i in
-    let p = put-same (two .put-two .ensures .0) (ap (lowFirst 2) (bits .taken-bits .ensures)) in (
+    let p = put-same (two .put-low .ensures .0) (ap (lowFirst 2) (bits .taken-bits .ensures)) in (
       omega arith,
       search needs,
       omega (arith, p .place),
@@ -77,7 +77,7 @@ put-soft-spec =
     μ-loop
     loop-holds
     taken-bits-requires
-    put-two-requires
+    put-low-requires
     add-i
     loop-less
     loop-again
