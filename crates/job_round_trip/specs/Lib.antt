@@ -1,4 +1,5 @@
 pub mod WrittenBack
 pub mod NeverLonger
 pub mod OneForm
+pub mod DecodedAlike
 pub mod WrittenBytes

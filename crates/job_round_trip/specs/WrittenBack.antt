@@ -8,11 +8,10 @@ use lib.Seq.{take-append-seam}
 use lib.IntN.{ℤ, pos}
 use Rattle.spec.specs.Code.{size, mapBytes, pairsIn}
 use Rattle.spec.specs.Score.{taken}
-use Rattle.spec.specs.Outcome.{padded, Lent, decodeOutcome, job, reading, readOutcome, long, Writing, writing}
+use Rattle.spec.specs.Outcome.{padded, job, reading, readOutcome, long, Writing, writing}
 use Rattle.spec.specs.JobWriter.{Fields, leanest, writtenRecord, writeServed, writeOutcome}
 use Rattle.laws.specs.Accepted.{Accepted}
 use Rattle.laws.specs.Taken.{length-taken, taken-twice, taken-range}
-use Rattle.laws.specs.FullScale.{taken-alike}
 use Rattle.laws.specs.WriteCall.{Writable, writes, served-of}
 use Rattle.laws.specs.WrittenForm.{value-back, pairs-back, code-back}
 use Rattle.job.specs.Calls.{same-job, same-reading}
@@ -81,7 +80,3 @@ module _ (f : Fields) (out : List ℕ) {k : ℕ} {o : List ℕ} (e : writeOutcom
       (padded 0 (length pairs) (f .code .pairs))
   call-read-back h maps softs pairs hm hs hp =
       ap (λ (s : List ℕ). readOutcome s maps softs pairs) record-said ∙ written-back f (call-accepted .0) h maps softs pairs hm hs hp
-
--- ---- and a block decoded from its record gives what the direct call gives: the soft values of the one are those of the other as they are taken
-pub decoded-alike : (f : Fields) (x : Lent) → decodeOutcome (f .code) (f .listSize) (f .stop) (taken (f .soft)) x ≡ decodeOutcome (f .code) (f .listSize) (f .stop) (f .soft) x
-decoded-alike f x = taken-alike (taken (f .soft)) (f .soft) (taken-twice (f .soft)) (f .code) (f .listSize) (f .stop) x
