@@ -126,8 +126,3 @@ const uint8_t *writer_output(void)
 {
     return record->at;
 }
-
-unsigned long writer_check_count(void)
-{
-    return calls;
-}

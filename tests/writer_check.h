@@ -18,9 +18,6 @@ void writer_check(const struct writer_call *c);
 /* The output of the call made last; it is there until the next one. */
 const uint8_t *writer_output(void);
 
-/* Calls made so far. */
-unsigned long writer_check_count(void);
-
 /* Says what is wrong with a call and ends the program. */
 void writer_fail(const struct writer_call *c, const char *what);
 

@@ -23,47 +23,53 @@ start c = c .before .before .before .before .before
 size-requires : tie.Need-size-requires
 size-requires c κs = bounds (c .before .before) .exponent
 
-cast-head-length : tie.Need-cast-head-length
-cast-head-length c = omega arith
+cast-option-bits : tie.Need-cast-option-bits
+cast-option-bits c = omega arith
 
-head-length-requires : tie.Need-head-length-requires
-head-length-requires c κs = search needs
+option-bits-requires : tie.Need-option-bits-requires
+option-bits-requires c κs = search needs
 
 pair-bit-requires : tie.Need-pair-bit-requires
 pair-bit-requires c κs = search needs
 
-add-result : tie.Need-add-result
-add-result c = omega (arith, bounds (start c) .map, bounds (start c) .pairs, bounds (start c) .few-soft)
-
 cast-result : tie.Need-cast-result
-cast-result c = omega (arith, bounds (start c) .map, bounds (start c) .pairs, bounds (start c) .few-soft)
+cast-result c = omega arith
 
-mul-result : tie.Need-mul-result
-mul-result c = omega (arith, bounds (start c) .map, bounds (start c) .pairs, bounds (start c) .few-soft)
+add-result : tie.Need-add-result
+add-result c = omega arith
 
 add-result-2 : tie.Need-add-result-2
 add-result-2 c = omega (arith, bounds (start c) .map, bounds (start c) .pairs, bounds (start c) .few-soft)
 
+cast-result-2 : tie.Need-cast-result-2
+cast-result-2 c = omega arith
+
+mul-result : tie.Need-mul-result
+mul-result c = omega arith
+
 add-result-3 : tie.Need-add-result-3
 add-result-3 c = omega (arith, bounds (start c) .map, bounds (start c) .pairs, bounds (start c) .few-soft)
-
-mul-result-2 : tie.Need-mul-result-2
-mul-result-2 c = omega (arith, bounds (start c) .map, bounds (start c) .pairs, bounds (start c) .few-soft)
 
 add-result-4 : tie.Need-add-result-4
 add-result-4 c = omega (arith, bounds (start c) .map, bounds (start c) .pairs, bounds (start c) .few-soft)
 
--- what stands before the map, over the size that was computed
-ahead : (c : tie.After-pair-bit) → let x = start c .args in
-    c .before .head-length .result ≡ 2 + fieldBit (unless 4 (x .l)) + 2 * fieldBit (unless (2 ^ x .m) (x .p)) + 4 * fieldBit (unless 0 (x .frame))
-ahead c =
+mul-result-2 : tie.Need-mul-result-2
+mul-result-2 c = omega (arith, bounds (start c) .map, bounds (start c) .pairs, bounds (start c) .few-soft)
+
+add-result-5 : tie.Need-add-result-5
+add-result-5 c = omega (arith, bounds (start c) .map, bounds (start c) .pairs, bounds (start c) .few-soft)
+
+-- the fields that may be left out, over the size that was computed
+options : (c : tie.After-pair-bit) → let x = start c .args in
+    c .before .option-bits .result ≡ fieldBit (unless 4 (x .l)) + 2 * fieldBit (unless (2 ^ x .m) (x .p)) + 4 * fieldBit (unless 0 (x .frame))
+options c =
     let x = start c .args in
-    c .before .head-length .ensures .0
-    ∙ ap (λ (n : ℕ). 2 + fieldBit (unless 4 (x .l)) + 2 * fieldBit (unless n (x .p)) + 4 * fieldBit (unless 0 (x .frame))) (c .before .before .size .ensures .0)
+    c .before .option-bits .ensures .0
+    ∙ ap (λ (n : ℕ). fieldBit (unless 4 (x .l)) + 2 * fieldBit (unless n (x .p)) + 4 * fieldBit (unless 0 (x .frame))) (c .before .before .size .ensures .0)
 
 returns : tie.Need-returns
 returns c = (
-  λ a. omega (arith, ahead c, c .pair-bit .ensures .0, written-length (given (start c) a)),
+  λ a. omega (arith, options c, c .pair-bit .ensures .0, written-length (given (start c) a)),
   omega (arith, bounds (start c) .map, bounds (start c) .pairs, bounds (start c) .few-soft),
 )
 
@@ -72,14 +78,16 @@ record-length-spec =
     tie.close
     (tie.spec
     size-requires
-    cast-head-length
-    head-length-requires
+    cast-option-bits
+    option-bits-requires
     pair-bit-requires
-    add-result
     cast-result
-    mul-result
+    add-result
     add-result-2
+    cast-result-2
+    mul-result
     add-result-3
-    mul-result-2
     add-result-4
+    mul-result-2
+    add-result-5
     returns)
