@@ -6,8 +6,8 @@ use decode_refusals::block_refusal;
 pub use host::RecordLength;
 pub use host::write_job_for_host;
 use slices::fill_bytes;
-use whole::record_length;
-use whole::write_record;
+pub use whole::record_length;
+pub use whole::write_record;
 ghost use mathlib.Core.Path.{_≡_};
 ghost use Rattle.spec.specs.Code.{code};
 ghost use Rattle.spec.specs.Outcome.{writing};
@@ -40,7 +40,7 @@ pub fn write_job(
     if refusal != 0 {
         return Length::Refused(refusal);
     }
-    let k = record_length(m, map, pairs, l, p, frame, soft);
+    let k = record_length(m, map, pairs, l, p, frame);
     if out.len() < k {
         return Length::Refused(10);
     }

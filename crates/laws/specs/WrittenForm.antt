@@ -10,11 +10,11 @@ use lib.Dec.{eqb}
 use lib.ListN.{length, length-append}
 use lib.IntN.{ℤ}
 use lib.Pow.{pow-mono}
-use Rattle.spec.specs.Code.{code, size}
+use Rattle.spec.specs.Code.{Code, code, size}
 use Rattle.spec.specs.Score.{taken}
 use Rattle.spec.specs.RecordOf.{Field, absent, present, valueOr, PairField, unannounced, announced, pairsOf, Content, codeSaid, lowFirst, fieldBit, pairBit, fieldsByte, fieldBytes, pairBytes, softBytes, headOf, recordOf}
 use Rattle.spec.specs.JobWriter.{Fields, unless, unlessNone, leanest, writtenRecord}
-use Rattle.laws.specs.Accepted.{size-small}
+use Rattle.laws.specs.Accepted.{Accepted, size-small}
 use Rattle.laws.specs.Pairs.{pairs-long}
 use Rattle.laws.specs.Taken.{length-taken}
 use Rattle.laws.specs.WriteCall.{Writable}
@@ -110,33 +110,31 @@ pub pairs-within : (q : List ℕ) → length q ≤ length (pairBytes (unlessNone
 pairs-within [] = omega arith
 pairs-within (x ∷ q) = omega arith
 
--- of fields that are not refused each part has its bound
-pub record Bounded (f : Fields) : Type 0 where
-  pub exponent : f .code .m ≤ 10
-  pub map : length (f .code .map) ≤ 128
-  pub pairs : length (f .code .pairs) ≤ 1024
-  pub whole : length (f .code .pairs) % 4 ≡ 0
-  pub some-soft : 4 ≤ length (f .soft)
-  pub few-soft : length (f .soft) ≤ 1024
+-- of a code that is not refused each part has its bound
+pub record Bounded (c : Code) : Type 0 where
+  pub exponent : c .m ≤ 10
+  pub map : length (c .map) ≤ 128
+  pub pairs : length (c .pairs) ≤ 1024
+  pub whole : length (c .pairs) % 4 ≡ 0
+  pub some : 4 ≤ size c
+  pub few : size c ≤ 1024
 
-pub bounded : (f : Fields) → Writable f → Bounded f
-bounded f w =
-    let a = w .accepts in
-    let n : size (f .code) ≤ 1024 = size-small a in
-    let some : 4 ≤ size (f .code) = pow-mono {i = 2} {j = f .code .m} (a .low) in
+pub bounded : {c : Code} → Accepted c → Bounded c
+bounded {c} a =
+    let n : size c ≤ 1024 = size-small a in
     record {
       exponent = a .high;
       map = omega (arith, a .bytes);
-      pairs = omega (arith, pairs-long (f .code .pairs) (a .ruled .whole), a .ruled .few);
+      pairs = omega (arith, pairs-long (c .pairs) (a .ruled .whole), a .ruled .few);
       whole = a .ruled .whole;
-      some-soft = omega (arith, w .values);
-      few-soft = omega (arith, w .values);
+      some = pow-mono {i = 2} {j = c .m} (a .low);
+      few = n;
     }
 
--- and 3,211 bytes are enough for all of them
+-- and 3,211 bytes are enough for all that is written
 pub written-at-most : (f : Fields) → Writable f → length (writtenRecord f) ≤ 3211
 written-at-most f w =
-    let b = bounded f w in
+    let b = bounded (w .accepts) in
     omega (
       arith,
       written-length f,
@@ -146,7 +144,8 @@ written-at-most f w =
       pair-one (unlessNone (f .code .pairs)),
       b .map,
       b .pairs,
-      b .few-soft,
+      b .few,
+      w .values,
     )
   where
     one : (x : Field) → fieldBit x ≤ 1

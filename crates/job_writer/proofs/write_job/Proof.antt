@@ -34,7 +34,9 @@ writable c a = given-none (givenBy (start (c .before)) a) (passed c a)
 
 -- the length that was computed
 measured : (c : tie.After-record-length) → let s = start (c .before .before) in c .record-length .result ≡ length (writtenRecord (given s))
-measured c = c .record-length .ensures .0 (start (c .before .before) .args .arikan)
+measured c =
+    let s = start (c .before .before) in
+    c .record-length .ensures .0 (s .args .arikan) (s .args .soft .now) (writable (c .before) (s .args .arikan) .values)
 
 block-refusal-requires : tie.Need-block-refusal-requires
 block-refusal-requires c κs = search needs
@@ -48,7 +50,7 @@ returns c =
     write-refused (given s) out k (given-refused (given s) (length out) k (r .block-refusal .ensures (s .args .arikan)) (c .if1 .taken)) (c .if1 .taken)
 
 record-length-requires : tie.Need-record-length-requires
-record-length-requires c κs = writable c
+record-length-requires c κs = λ a. writable c a .accepts
 
 returns-2 : tie.Need-returns-2
 returns-2 c =

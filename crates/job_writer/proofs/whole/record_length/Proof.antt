@@ -1,9 +1,11 @@
 -- `job_writer::whole::record_length` meets its contract: the lengths of its parts. Assumes nothing.
 use mathlib.Core.Path.{_≡_, ap, _∙_}
 use mathlib.Core.Bool.{Bool, true}
+use mathlib.Core.List.{List}
 use Prim.Native.Nat.{ℕ, _+_, _*_, _^_}
 use native.Mathlib.Omega.{arith}
 use borrow.Author.Needs.{needs}
+use lib.IntN.{ℤ}
 use Rattle.spec.specs.Code.{code}
 use Rattle.spec.specs.RecordOf.{fieldBit}
 use Rattle.spec.specs.JobWriter.{Fields, fieldsOf, unless}
@@ -11,11 +13,11 @@ use Rattle.laws.specs.WrittenForm.{written-length, Bounded, bounded}
 use Rattle.job_writer.proofs.whole.record_length.Statement.{statement}
 use Rattle.job_writer.proofs.whole.record_length.Tie as tie
 
-abbrev given : tie.Start → Bool → Fields
-given s a = let x = s .args in fieldsOf (code (x .m) a (x .map .now) (x .pairs .now)) (x .l) (x .p) (x .frame) (x .soft .now)
+abbrev given : tie.Start → Bool → List ℤ → Fields
+given s a soft = let x = s .args in fieldsOf (code (x .m) a (x .map .now) (x .pairs .now)) (x .l) (x .p) (x .frame) soft
 
-bounds : (s : tie.Start) → Bounded (given s true)
-bounds s = bounded (given s true) (s .pre true)
+bounds : (s : tie.Start) → let x = s .args in Bounded (code (x .m) true (x .map .now) (x .pairs .now))
+bounds s = bounded (s .pre true)
 
 abbrev start : tie.After-pair-bit → tie.Start
 start c = c .before .before .before .before .before
@@ -39,7 +41,7 @@ add-result : tie.Need-add-result
 add-result c = omega arith
 
 add-result-2 : tie.Need-add-result-2
-add-result-2 c = omega (arith, bounds (start c) .map, bounds (start c) .pairs, bounds (start c) .few-soft)
+add-result-2 c = omega (arith, bounds (start c) .map, bounds (start c) .pairs)
 
 cast-result-2 : tie.Need-cast-result-2
 cast-result-2 c = omega arith
@@ -48,16 +50,16 @@ mul-result : tie.Need-mul-result
 mul-result c = omega arith
 
 add-result-3 : tie.Need-add-result-3
-add-result-3 c = omega (arith, bounds (start c) .map, bounds (start c) .pairs, bounds (start c) .few-soft)
+add-result-3 c = omega (arith, bounds (start c) .map, bounds (start c) .pairs)
 
 add-result-4 : tie.Need-add-result-4
-add-result-4 c = omega (arith, bounds (start c) .map, bounds (start c) .pairs, bounds (start c) .few-soft)
+add-result-4 c = omega (arith, bounds (start c) .map, bounds (start c) .pairs)
 
 mul-result-2 : tie.Need-mul-result-2
-mul-result-2 c = omega (arith, bounds (start c) .map, bounds (start c) .pairs, bounds (start c) .few-soft)
+mul-result-2 c = omega (arith, bounds (start c) .map, bounds (start c) .pairs)
 
 add-result-5 : tie.Need-add-result-5
-add-result-5 c = omega (arith, bounds (start c) .map, bounds (start c) .pairs, bounds (start c) .few-soft)
+add-result-5 c = omega (arith, bounds (start c) .map, bounds (start c) .pairs)
 
 -- the fields that may be left out, over the size that was computed
 options : (c : tie.After-pair-bit) → let x = start c .args in
@@ -69,8 +71,8 @@ options c =
 
 returns : tie.Need-returns
 returns c = (
-  λ a. omega (arith, options c, c .pair-bit .ensures .0, written-length (given (start c) a)),
-  omega (arith, bounds (start c) .map, bounds (start c) .pairs, bounds (start c) .few-soft),
+  λ a soft n. omega (arith, options c, c .pair-bit .ensures .0, n, c .before .before .size .ensures .0, written-length (given (start c) a soft)),
+  omega (arith, bounds (start c) .map, bounds (start c) .pairs),
 )
 
 pub record-length-spec : {M : Type 1} → statement M

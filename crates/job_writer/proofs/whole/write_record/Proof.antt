@@ -17,8 +17,8 @@ use Rattle.job_writer.proofs.whole.write_record.Tie as tie
 abbrev given : tie.Start → Fields
 given s = let x = s .args in fieldsOf (code (x .m) (x .arikan) (x .map .now) (x .pairs .now)) (x .l) (x .p) (x .frame) (x .soft .now)
 
-bounds : (s : tie.Start) → Bounded (given s)
-bounds s = bounded (given s) (s .pre .0)
+bounds : (s : tie.Start) → Bounded (given s .code)
+bounds s = bounded (s .pre .0 .accepts)
 
 -- the record in two parts
 abbrev ahead : Fields → List ℕ
@@ -61,7 +61,7 @@ put-head-requires : tie.Need-put-head-requires
 put-head-requires c κs =
     let s = start (c .before .before) in
     let b = bounds s in
-    (omega (arith, b .exponent), omega (arith, b .some-soft, s .pre .1, written-length (given s)))
+    (omega (arith, b .exponent), omega (arith, b .some, s .pre .0 .values, s .pre .1, written-length (given s)))
 
 put-rest-requires : tie.Need-put-rest-requires
 put-rest-requires c κs =
@@ -70,7 +70,7 @@ put-rest-requires c κs =
     let s = start (fields .before) in
     let b = bounds s in
     let at = put-same (head .put-head .ensures) (head-is fields) .place in
-    (b .whole, b .pairs, b .some-soft, s .pre .0 .in-range, omega (arith, at, parts (given s), s .pre .1))
+    (b .whole, b .pairs, omega (arith, b .some, s .pre .0 .values), s .pre .0 .in-range, omega (arith, at, parts (given s), s .pre .1))
 
 same-length : tie.Need-same-length
 same-length c = search needs
