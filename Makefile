@@ -1,8 +1,10 @@
 # make look   the program on the sample within seconds, with nothing proved
 # make run    decode a record: the sample, or the file RECORD names
 # make test   prove everything and compare the library and the program with the references
-# make hosts  build the library and the tool make_record, and run the example hosts written in C
-# make bench  speed and instructions a block, and a record
+# make hosts  build the library and the tools make_record and run_load, and run the example hosts written in C
+# make load   the speed of this box on test loads, and the checksums by which boxes are compared; STATE, BLOCKS,
+#             THREADS and CODES name others than the usual ones, as in make load CODES="polar64 polar256" BLOCKS=4000
+# make bench  speed and instructions a block, a record and a test load
 # make stored-records  what decode_records reads and must print, made again by the second reader and decoder
 # make clean
 
@@ -24,10 +26,14 @@ RECORD = crates/decode_job/stdin
 
 HOSTS = encode_extract decode_block display_early read_record decode_links
 
-# A host that takes its settings as arguments: it is built, and not run, by make hosts.
-TOOL = make_record
+# Hosts that take their settings as arguments: they are built, and not run, by make hosts.
+TOOLS = make_record run_load
 
-.PHONY: look run test hosts bench stored-records clean
+# What make load runs; where a setting is not named, it is the tool's usual one.
+CODES = conv64 conv256 conv1024
+SETTINGS = $(STATE:%=state=%) $(BLOCKS:%=blocks=%) $(THREADS:%=threads=%)
+
+.PHONY: look run test hosts load bench stored-records clean
 
 # rt try takes the sources as they are: it asks for no proof.
 look:
@@ -44,8 +50,13 @@ run: $(PROGRAM)
 test:
 	tests/run-all
 
-hosts: $(HOSTS:%=$(OUT)/%) $(OUT)/$(TOOL)
+hosts: $(HOSTS:%=$(OUT)/%) $(TOOLS:%=$(OUT)/%)
 	for host in $(HOSTS); do $(OUT)/$$host || exit 1; done
+
+# The last is what the box's figure is for.
+load: $(OUT)/run_load
+	@for code in $(CODES); do $(OUT)/run_load code=$$code $(SETTINGS) || exit 1; echo; done
+	@$(OUT)/run_load code=conv256 list=8 $(SETTINGS)
 
 bench: $(OUT)/bench_codec $(OUT)/bench_decoder $(OUT)/bench_records
 	$(OUT)/bench_codec
@@ -58,10 +69,10 @@ bench: $(OUT)/bench_codec $(OUT)/bench_decoder $(OUT)/bench_records
 # The second encoder and extractor, the second decoder, and what draws codes.
 CODEC = tests/reference_codec.c tests/reference_transform.c
 PAPER = tests/paper_decoder.c tests/paper_score.c tests/arikan_score.c
-CODES = tests/pairs.c tests/draw.c $(CODEC)
+DRAWN = tests/pairs.c tests/draw.c $(CODEC)
 CODEC_HEADERS = tests/reference_codec.h tests/reference_transform.h
 PAPER_HEADERS = tests/paper_decoder.h tests/paper_score.h
-CODES_HEADERS = tests/pairs.h tests/draw.h $(CODEC_HEADERS)
+DRAWN_HEADERS = tests/pairs.h tests/draw.h $(CODEC_HEADERS)
 
 # Without the library: what the proved decoder must print owes it nothing.
 RECORDS = tests/make_records.c tests/reference_job.c $(PAPER) $(CODEC)
@@ -89,28 +100,33 @@ $(PROGRAM): $(PROVED)
 $(LIBRARY): $(PROVED)
 	$(call prove,staticlib caldurrex)
 
-$(HOSTS:%=$(OUT)/%) $(OUT)/$(TOOL): $(OUT)/%: examples/%.c include/caldurrex.h $(LIBRARY)
+# What a host has beside its own file.
+$(OUT)/make_record: examples/settings.c examples/settings.h
+$(OUT)/run_load: examples/load_round.c examples/load_threads.c examples/settings.c examples/load_round.h \
+	examples/load_threads.h examples/settings.h
+
+$(HOSTS:%=$(OUT)/%) $(TOOLS:%=$(OUT)/%): $(OUT)/%: examples/%.c include/caldurrex.h $(LIBRARY)
 	@mkdir -p $(OUT)
-	$(CC) $(CFLAGS) -pthread -Iinclude -o $@ $< $(LIBRARY)
+	$(CC) $(CFLAGS) -pthread -Iinclude -o $@ $(filter %.c,$^) $(LIBRARY)
 
-BENCH = bench/bench_codec.c $(CODES)
+BENCH = bench/bench_codec.c $(DRAWN)
 
-$(OUT)/bench_codec: $(BENCH) include/caldurrex.h $(CODES_HEADERS) $(LIBRARY)
+$(OUT)/bench_codec: $(BENCH) include/caldurrex.h $(DRAWN_HEADERS) $(LIBRARY)
 	@mkdir -p $(OUT)
 	$(CC) $(CFLAGS) -Iinclude -Itests -o $@ $(BENCH) $(LIBRARY)
 
-BENCH_DECODER = bench/bench_decoder.c bench/plain_decoder.c $(CODES)
-BENCH_HEADERS = bench/plain_decoder.h bench/plain_tables.h include/caldurrex.h $(CODES_HEADERS)
+BENCH_DECODER = bench/bench_decoder.c bench/plain_decoder.c $(DRAWN)
+BENCH_HEADERS = bench/plain_decoder.h bench/plain_tables.h include/caldurrex.h $(DRAWN_HEADERS)
 
 # The plain C decoder is compiled for speed, or the comparison would not be fair.
 $(OUT)/bench_decoder: $(BENCH_DECODER) $(BENCH_HEADERS) $(LIBRARY)
 	@mkdir -p $(OUT)
 	$(CC) $(CFLAGS) -O3 -Iinclude -Itests -o $@ $(BENCH_DECODER) $(LIBRARY)
 
-BENCH_RECORDS = bench/bench_records.c tests/decoder_calls.c tests/codec_calls.c tests/reference_writer.c \
-	tests/reference_job.c $(PAPER) $(CODES)
-BENCH_RECORDS_HEADERS = tests/decoder_calls.h tests/codec_calls.h tests/reference_writer.h tests/reference_job.h \
-	include/caldurrex.h $(PAPER_HEADERS) $(CODES_HEADERS)
+BENCH_RECORDS = bench/bench_records.c tests/decoder_calls.c tests/codec_calls.c tests/reference_load.c \
+	tests/reference_writer.c tests/reference_job.c $(PAPER) $(DRAWN)
+BENCH_RECORDS_HEADERS = tests/decoder_calls.h tests/codec_calls.h tests/reference_load.h tests/reference_writer.h \
+	tests/reference_job.h include/caldurrex.h $(PAPER_HEADERS) $(DRAWN_HEADERS)
 
 $(OUT)/bench_records: $(BENCH_RECORDS) $(BENCH_RECORDS_HEADERS) $(LIBRARY)
 	@mkdir -p $(OUT)

@@ -5,36 +5,29 @@
  *
  * Build, from the repository's top, after `rt staticlib caldurrex`:
  *
- *   cc -std=c11 -Iinclude examples/make_record.c target/staticlib/libcaldurrex.a
+ *   cc -std=c11 -Iinclude examples/make_record.c examples/settings.c target/staticlib/libcaldurrex.a
  */
 #include "caldurrex.h"
+#include "settings.h"
 
 #include <errno.h>
 #include <signal.h>
-#include <stdarg.h>
 #include <stdio.h>
-#include <stdlib.h>
 #include <string.h>
 
 enum { MAX_N = 1024, MAX_PAIRS = 256, INPUT_ROOM = 1 << 20 };
-enum setting { M, LIST, STOP, FRAME, FROZEN, PAIRS, SOFT, ARIKAN, SETTINGS };
+enum { M, LIST, STOP, FRAME, FROZEN, PAIRS, SOFT, ARIKAN, SETTINGS };
 
-static const char *const name[SETTINGS] = {"m", "list", "stop", "frame", "frozen", "pairs", "soft", "arikan"};
-
-/* What to give for each. */
-static const char *const due[SETTINGS] = {
-    "m from 2 to 10, for n = 2^m positions",
-    "a list size from 1 to 32",
-    "a stop position from 0 to n",
-    "a frame number from 0 to 4294967295",
-    "positions from 0 to n - 1, as in frozen=0,1,2",
-    "pairs f:e of positions, as in pairs=4:0,4:3",
-    "n values from -2048 to 2047, as in soft=5,-3,2,7",
-    "the bare word, for Arikan's transform",
+static struct setting settings[SETTINGS] = {
+    [M] = {.name = "m", .due = "m from 2 to 10, for n = 2^m positions"},
+    [LIST] = {.name = "list", .due = "a list size from 1 to 32"},
+    [STOP] = {.name = "stop", .due = "a stop position from 0 to n"},
+    [FRAME] = {.name = "frame", .due = "a frame number from 0 to 4294967295"},
+    [FROZEN] = {.name = "frozen", .due = "positions from 0 to n - 1, as in frozen=0,1,2"},
+    [PAIRS] = {.name = "pairs", .due = "pairs f:e of positions, as in pairs=4:0,4:3"},
+    [SOFT] = {.name = "soft", .due = "n values from -2048 to 2047, as in soft=5,-3,2,7"},
+    [ARIKAN] = {.name = "arikan", .due = "the bare word, for Arikan's transform", .bare = 1},
 };
-
-/* The text behind the = of each setting; null if it is not given. */
-static const char *given[SETTINGS];
 
 /* What the writer takes; n goes with m. */
 static uint32_t number[FRAME + 1];
@@ -42,104 +35,22 @@ static uint8_t map[MAX_N / 8], pairs[4 * MAX_PAIRS];
 static int16_t soft[MAX_N];
 static size_t n, pairs_len;
 
-/* One line, whatever the texts in it hold. */
-_Noreturn static void die(const char *format, ...)
-{
-    char line[400];
-    va_list values;
-    va_start(values, format);
-    vsnprintf(line, sizeof line, format, values);
-    va_end(values);
-    for (char *at = line; *at != 0; at++)
-        if ((unsigned char)*at < ' ' || *at == 127)
-            *at = '?';
-    fprintf(stderr, "make_record: %s\n", line);
-    exit(1);
-}
-
 static int show_usage(void)
 {
     fputs("usage: make_record m=M [SETTING..] > FILE, for a job record of these settings, in any order:\n", stderr);
-    for (int which = 0; which < SETTINGS; which++)
-        fprintf(stderr, "  %-7s %s\n", name[which], due[which]);
+    settings_print();
     fputs("Where they are not given, list is 4, stop is n, frame is 0, and frozen and pairs are none; the soft values\n"
           "then come from standard input, with white space or commas between them. For example:\n"
           "  make_record m=2 list=2 frozen=0,1 soft=5,-3,2,7 > sample.record\n", stderr);
     return 1;
 }
 
-/* ---- the arguments */
-
-static enum setting find(const char *argument, size_t len)
-{
-    for (int which = 0; which < SETTINGS; which++)
-        if (strlen(name[which]) == len && strncmp(name[which], argument, len) == 0)
-            return (enum setting)which;
-    die("there is no setting '%.40s'; make_record help names them all", argument);
-}
-
-static void collect(int count, char **arguments)
-{
-    for (int i = 1; i < count; i++) {
-        size_t len = strcspn(arguments[i], "=");
-        enum setting which = find(arguments[i], len);
-        int has_value = arguments[i][len] == '=';
-        if (which == ARIKAN && has_value)
-            die("arikan takes no value; give %s", due[ARIKAN]);
-        if (which != ARIKAN && !has_value)
-            die("%s has no value; write %s= and behind it %s", name[which], name[which], due[which]);
-        if (given[which] != NULL)
-            die("%s is given twice; give it once", name[which]);
-        given[which] = arguments[i] + len + has_value;
-    }
-}
-
-/* ---- numbers */
-
-/* A part of a text that should be a number. */
-struct item {
-    const char *at;
-    size_t len;
-};
-
-static struct item item_up_to(const char *at, const char *ends)
-{
-    return (struct item){at, strcspn(at, ends)};
-}
-
-static int shown(struct item item)
-{
-    return item.len < 40 ? (int)item.len : 40;
-}
-
-/* Nothing but digits from a place on, at least one. What does not fit 32 bits stays above them,
- * however long it is. */
-static uint64_t digits(enum setting which, struct item item, size_t from)
-{
-    uint64_t value = 0;
-    size_t i = from;
-    for (; i < item.len && item.at[i] >= '0' && item.at[i] <= '9'; i++)
-        value = value > UINT32_MAX ? value : 10 * value + (uint64_t)(item.at[i] - '0');
-    if (i == from || i < item.len)
-        die("%s: '%.*s' is no number; give %s", name[which], shown(item), item.at, due[which]);
-    return value;
-}
-
-static void take_number(enum setting which, uint32_t otherwise)
-{
-    struct item item = item_up_to(given[which] != NULL ? given[which] : "", "");
-    uint64_t value = given[which] != NULL ? digits(which, item, 0) : otherwise;
-    if (value > UINT32_MAX)
-        die("%s: %.*s is too large; give %s", name[which], shown(item), item.at, due[which]);
-    number[which] = (uint32_t)value;
-}
-
 /* ---- lists */
 
 /* The first item; a null pointer if there is none. */
-static const char *first(enum setting which)
+static const char *first(const struct setting *s)
 {
-    return given[which] != NULL && given[which][0] != 0 ? given[which] : NULL;
+    return s->given != NULL && s->given[0] != 0 ? s->given : NULL;
 }
 
 /* The item behind this one; a null pointer if it is the last. */
@@ -150,11 +61,12 @@ static const char *next(struct item item)
 
 static void take_frozen(void)
 {
-    for (const char *at = first(FROZEN); at != NULL;) {
+    for (const char *at = first(&settings[FROZEN]); at != NULL;) {
         struct item item = item_up_to(at, ",");
-        uint64_t i = digits(FROZEN, item, 0);
+        uint64_t i = setting_digits(&settings[FROZEN], item, 0);
         if (i >= n)
-            die("frozen position %.*s is not below n = %zu; give %s", shown(item), item.at, n, due[FROZEN]);
+            die("frozen position %.*s is not below n = %zu; give %s", item_shown(item), item.at, n,
+                settings[FROZEN].due);
         if (map[i / 8] >> (i % 8) & 1)
             die("frozen position %lu is given twice; give each once", (unsigned long)i);
         map[i / 8] |= (uint8_t)(1u << (i % 8));
@@ -165,9 +77,10 @@ static void take_frozen(void)
 /* The writer takes two bytes for f and two for e, low byte first. */
 static void put_pair(size_t place, struct item f, struct item e)
 {
-    const uint64_t parts[2] = {digits(PAIRS, f, 0), digits(PAIRS, e, 0)};
+    const uint64_t parts[2] = {setting_digits(&settings[PAIRS], f, 0), setting_digits(&settings[PAIRS], e, 0)};
     if (parts[0] > 65535 || parts[1] > 65535)
-        die("pair %.*s:%.*s has a part above 65535; give %s", shown(f), f.at, shown(e), e.at, due[PAIRS]);
+        die("pair %.*s:%.*s has a part above 65535; give %s", item_shown(f), f.at, item_shown(e), e.at,
+            settings[PAIRS].due);
     for (size_t byte = 0; byte < 4 && place < MAX_PAIRS; byte++)
         pairs[4 * place + byte] = (uint8_t)(parts[byte / 2] >> (8 * (byte % 2)));
 }
@@ -175,10 +88,10 @@ static void put_pair(size_t place, struct item f, struct item e)
 static void take_pairs(void)
 {
     size_t count = 0;
-    for (const char *at = first(PAIRS); at != NULL; count++) {
+    for (const char *at = first(&settings[PAIRS]); at != NULL; count++) {
         struct item pair = item_up_to(at, ","), f = item_up_to(at, ",:");
         if (f.at[f.len] != ':')
-            die("pairs: '%.*s' is no pair; give %s", shown(pair), pair.at, due[PAIRS]);
+            die("pairs: '%.*s' is no pair; give %s", item_shown(pair), pair.at, settings[PAIRS].due);
         put_pair(count, f, item_up_to(f.at + f.len + 1, ","));
         at = next(pair);
     }
@@ -208,9 +121,9 @@ static const char *read_input(void)
 static int16_t soft_value(size_t place, struct item item)
 {
     int negative = item.len > 0 && item.at[0] == '-';
-    uint64_t magnitude = digits(SOFT, item, (size_t)negative);
+    uint64_t magnitude = setting_digits(&settings[SOFT], item, (size_t)negative);
     if (magnitude > (negative ? 2048 : 2047))
-        die("soft value %zu, counted from 0, is %.*s; give %s", place, shown(item), item.at, due[SOFT]);
+        die("soft value %zu, counted from 0, is %.*s; give %s", place, item_shown(item), item.at, settings[SOFT].due);
     return (int16_t)(negative ? -(int)magnitude : (int)magnitude);
 }
 
@@ -218,7 +131,7 @@ static int16_t soft_value(size_t place, struct item item)
 static void take_soft(void)
 {
     size_t count = 0;
-    const char *at = given[SOFT] != NULL ? given[SOFT] : read_input();
+    const char *at = settings[SOFT].given != NULL ? settings[SOFT].given : read_input();
     at += strspn(at, SPACES);
     for (int more = *at != 0; more; count++) {
         struct item item = item_up_to(at, "," SPACES);
@@ -263,9 +176,9 @@ _Noreturn static void explain(uint32_t refusal)
 {
     unsigned long m = number[M], list = number[LIST], stop = number[STOP];
     switch (refusal) {
-    case CALDURREX_BAD_M: die("m=%lu is out of range; give %s", m, due[M]);
-    case CALDURREX_BAD_LIST_SIZE: die("list=%lu is out of range; give %s", list, due[LIST]);
-    case CALDURREX_BAD_STOP: die("stop=%lu is above n = %zu; give %s", stop, n, due[STOP]);
+    case CALDURREX_BAD_M: die("m=%lu is out of range; give %s", m, settings[M].due);
+    case CALDURREX_BAD_LIST_SIZE: die("list=%lu is out of range; give %s", list, settings[LIST].due);
+    case CALDURREX_BAD_STOP: die("stop=%lu is above n = %zu; give %s", stop, n, settings[STOP].due);
     case CALDURREX_BAD_PAIRS: explain_pairs();
     default: die("the library refuses with %lu; build this tool with that library", (unsigned long)refusal);
     }
@@ -273,15 +186,15 @@ _Noreturn static void explain(uint32_t refusal)
 
 static void take_settings(void)
 {
-    if (given[M] == NULL)
-        die("m is not given; give %s", due[M]);
-    take_number(M, 0);
+    if (settings[M].given == NULL)
+        die("m is not given; give %s", settings[M].due);
+    number[M] = setting_number(&settings[M], 0);
     if (number[M] < 2 || number[M] > 10)
         explain(CALDURREX_BAD_M);
     n = (size_t)1 << number[M];
-    take_number(LIST, 4);
-    take_number(STOP, (uint32_t)n);
-    take_number(FRAME, 0);
+    number[LIST] = setting_number(&settings[LIST], 4);
+    number[STOP] = setting_number(&settings[STOP], (uint32_t)n);
+    number[FRAME] = setting_number(&settings[FRAME], 0);
     take_frozen();
     take_pairs();
     take_soft();
@@ -290,15 +203,13 @@ static void take_settings(void)
 int main(int argc, char **argv)
 {
     static uint8_t record[CALDURREX_RECORD_BYTES];
-    int help = argc < 2;
-    for (int i = 1; i < argc; i++)
-        help |= strcmp(argv[i], "-h") == 0 || strcmp(argv[i], "--help") == 0 || strcmp(argv[i], "help") == 0;
-    if (help)
+    settings_open("make_record", settings, SETTINGS);
+    if (settings_help(argc, argv))
         return show_usage();
-    collect(argc, argv);
+    settings_collect(argc, argv);
     take_settings();
     struct caldurrex_length answer =
-        caldurrex_write_job(number[M], given[ARIKAN] != NULL, map, (n + 7) / 8, pairs, pairs_len, number[LIST],
+        caldurrex_write_job(number[M], settings[ARIKAN].given != NULL, map, (n + 7) / 8, pairs, pairs_len, number[LIST],
                             number[STOP], number[FRAME], soft, n, record, sizeof record);
     if (answer.refusal != 0)
         explain(answer.refusal);

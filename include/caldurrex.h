@@ -1,6 +1,6 @@
 /*
  * Caldurrex: encoder, extractor and list decoder for convolutional polar codes and for
- * plain ones, by Arikan's transform, and a reader and a writer of job records.
+ * plain ones, by Arikan's transform, a reader and a writer of job records, and a test load.
  *
  * A code has n = 2^m positions, m from 2 to 10, and a frozen map of ceil(n/8)
  * bytes: bit i mod 8 of byte i div 8, counted from the low end, is 1 where
@@ -58,7 +58,8 @@ enum caldurrex_refusal {
     CALDURREX_NOT_A_CODE_WORD = 12,   /* a frozen input bit of the word breaks its rule */
     CALDURREX_BAD_RECORD_LENGTH = 13, /* record not as long as its fields need */
     CALDURREX_BAD_FIELD_MAP = 14,     /* bits 5 to 7 of a record's first byte not 0 */
-    CALDURREX_BAD_PAIRS = 15          /* a wrong pair, a part of a pair, or above 256 of them */
+    CALDURREX_BAD_PAIRS = 15,         /* a wrong pair, a part of a pair, or above 256 of them */
+    CALDURREX_ZERO_STATE = 24         /* a test load from state 0 */
 };
 
 /*
@@ -325,6 +326,56 @@ struct caldurrex_length caldurrex_write_job(uint32_t m, uint8_t arikan,
                                             uint32_t frame,
                                             const int16_t *soft, size_t soft_len,
                                             uint8_t *record, size_t record_len);
+
+/* What a test load answers. refusal is 0 if the load was made, and then length is the number
+ * of bytes of its record and state the next state, which is not 0; else refusal is the number
+ * of the refusal, and the other two are 0. */
+struct caldurrex_load {
+    uint32_t refusal, length, state;
+};
+
+/*
+ * Makes a test load: a payload and the job record of its noisy code word, both drawn from a
+ * state, so that the same state, code and frame number give the same bytes on every machine.
+ *
+ * A draw xors into the state its shift left by 13 places, then right by 17, then left by 5,
+ * each kept to 32 bits, and is the new state. The payload is the low bits of k draws. Then
+ * soft value i is 20 or -20 as code bit i is 0 or 1, plus a draw modulo 41, minus 20. So it
+ * agrees with its code bit or is 0, the code word correlates at the sum of the magnitudes of
+ * the soft values, and no row of caldurrex_decode scores higher. The record is what
+ * caldurrex_write_job gives for the code, list size 4, stop n, the frame number and these
+ * soft values.
+ *
+ *   state    not 0; the answer has the one with which the next load goes on
+ *   arikan   0 for the convolutional transform, any other byte for Arikan's
+ *   map      the frozen map, ceil(n/8) bytes
+ *   pairs    four bytes a pair
+ *   frame    any number
+ *   record   at least as many bytes as the record has, for which CALDURREX_RECORD_BYTES is
+ *            always enough; the first become the record, and all behind it up to record_len
+ *            becomes 0
+ *   payload  at least k bytes; the first k become the payload, and all behind them up to
+ *            payload_len becomes 0
+ *
+ * The answer has the length of the record and the next state. Its refusal is 0, or the first
+ * of these that applies, in this order:
+ *
+ *   1   CALDURREX_BAD_M             m outside 2..10
+ *   2   CALDURREX_BAD_MAP_LENGTH    map_len is not ceil(n/8)
+ *   3   CALDURREX_BAD_MAP_BIT       a map bit past n is set
+ *   15  CALDURREX_BAD_PAIRS         as for caldurrex_encode
+ *   24  CALDURREX_ZERO_STATE        state is 0
+ *   10  CALDURREX_SHORT_OUTPUT      record_len is below the length of the record, or
+ *                                   payload_len below k
+ *
+ * A refused call writes nowhere.
+ */
+struct caldurrex_load caldurrex_test_load(uint32_t state, uint32_t m, uint8_t arikan,
+                                          const uint8_t *map, size_t map_len,
+                                          const uint8_t *pairs, size_t pairs_len,
+                                          uint32_t frame,
+                                          uint8_t *record, size_t record_len,
+                                          uint8_t *payload, size_t payload_len);
 
 #ifdef __cplusplus
 }

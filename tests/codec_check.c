@@ -2,6 +2,7 @@
 
 #include "caldurrex.h"
 #include "lent.h"
+#include "print_code.h"
 #include "reference_codec.h"
 
 #include <signal.h>
@@ -36,14 +37,10 @@ static unsigned long other_yes[CALL_KINDS][MAX_M + 1]; /* accepted, with a byte 
 void check_fail(const struct call *c, const char *what)
 {
     printf("compare_codec: %s: %s\n", kind_name[c->kind], what);
-    printf("  m %lu, arikan %u, map of %zu bytes, pairs of %zu, input of %zu, output of %zu\n  map ",
+    printf("  m %lu, arikan %u, map of %zu bytes, pairs of %zu, input of %zu, output of %zu\n",
            (unsigned long)c->m, c->arikan, c->map_len, c->pairs.len, c->in_len, c->out_len);
-    for (size_t i = 0; i < c->map_len && i < 128; i++)
-        printf("%02x", c->map[i]);
-    printf("\n  pairs");
-    for (size_t j = 0; j < pairs_count(&c->pairs) && j < 260; j++)
-        printf(" %zu-%zu", reference_pair_at(c->pairs.bytes, j).f, reference_pair_at(c->pairs.bytes, j).e);
-    printf("\n  input");
+    print_code(c->map, c->map_len, &c->pairs);
+    printf("  input");
     for (size_t i = 0; i < c->in_len && i < 1024; i++)
         printf(c->in[i] < 10 ? "%s%u" : "%s(%u)", i % 64 == 0 ? " " : "", c->in[i]);
     printf("\ncompare_codec: FAILED at call %lu (seed %lu)\n", calls, seed);

@@ -268,9 +268,9 @@ int main(int argc, char **argv)
         printf("compare_writer: FAILED: not all was reached (seed %lu)\n", seed);
         return 1;
     }
+    struct tally_totals t = writer_tally_totals();
     printf("compare_writer: %lu calls agree, %lu accepted and %lu refused, %lu of them by Arikan's transform; "
            "%lu records read back and written again in %lu calls more (seed %lu)\n",
-           writer_tally_accepted() + writer_tally_refused(), writer_tally_accepted(), writer_tally_refused(),
-           writer_tally_arikan(), read_back, 2 * read_back, seed);
+           t.accepted + t.refused, t.accepted, t.refused, t.arikan, read_back, 2 * read_back, seed);
     return 0;
 }

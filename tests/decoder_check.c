@@ -4,7 +4,7 @@
 #include "decoder_memory.h"
 #include "decoder_tally.h"
 #include "paper_decoder.h"
-#include "reference_codec.h"
+#include "print_code.h"
 
 #include <signal.h>
 #include <stdio.h>
@@ -67,15 +67,11 @@ void decoder_check_fail(const struct decoder_call *c, const char *what)
 {
     printf("%s: %s\n", program, what);
     printf("  m %lu, arikan %u, list size %lu, stop %lu, map of %zu, pairs of %zu, soft values %zu, numbers %zu, "
-           "bytes %zu, inputs %zu, words %zu, scores %zu\n  map ",
+           "bytes %zu, inputs %zu, words %zu, scores %zu\n",
            (unsigned long)c->m, c->arikan, (unsigned long)c->list_size, (unsigned long)c->stop, c->map_len,
            c->pairs.len, c->soft_len, c->numbers_len, c->bytes_len, c->inputs_len, c->words_len, c->scores_len);
-    for (size_t i = 0; i < c->map_len && i < 128; i++)
-        printf("%02x", c->map[i]);
-    printf("\n  pairs");
-    for (size_t j = 0; j < pairs_count(&c->pairs) && j < 260; j++)
-        printf(" %zu-%zu", reference_pair_at(c->pairs.bytes, j).f, reference_pair_at(c->pairs.bytes, j).e);
-    printf("\n  soft");
+    print_code(c->map, c->map_len, &c->pairs);
+    printf("  soft");
     for (size_t i = 0; i < c->soft_len && i < 1024; i++)
         printf(" %d", c->soft[i]);
     printf("\n%s: FAILED at call %lu (seed %lu)\n", program, decoder_tally_calls() + 1, seed);

@@ -2,7 +2,7 @@
 
 #include "caldurrex.h"
 #include "lent.h"
-#include "reference_codec.h"
+#include "print_code.h"
 #include "reference_writer.h"
 
 #include <signal.h>
@@ -32,15 +32,11 @@ void writer_fail(const struct writer_call *c, const char *what)
     const struct decoder_call *job = &c->job;
     printf("compare_writer: %s\n", what);
     printf("  m %lu, arikan %u, list size %lu, stop %lu, frame %lu, map of %zu, pairs of %zu, soft values %zu, "
-           "output of %zu\n  map ",
+           "output of %zu\n",
            (unsigned long)job->m, job->arikan, (unsigned long)job->list_size, (unsigned long)job->stop,
            (unsigned long)c->frame, job->map_len, job->pairs.len, job->soft_len, c->record_len);
-    for (size_t i = 0; i < job->map_len && i < 128; i++)
-        printf("%02x", job->map[i]);
-    printf("\n  pairs");
-    for (size_t j = 0; j < pairs_count(&job->pairs) && j < 260; j++)
-        printf(" %zu-%zu", reference_pair_at(job->pairs.bytes, j).f, reference_pair_at(job->pairs.bytes, j).e);
-    printf("\n  soft");
+    print_code(job->map, job->map_len, &job->pairs);
+    printf("  soft");
     for (size_t i = 0; i < job->soft_len && i < 1024; i++)
         printf(" %d", job->soft[i]);
     printf("\n  output");

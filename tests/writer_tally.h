@@ -2,15 +2,13 @@
 #ifndef WRITER_TALLY_H
 #define WRITER_TALLY_H
 
+#include "tally_report.h"
 #include "writer_calls.h"
 
 /* Counts a call that was answered rightly. */
 void writer_tally(const struct writer_call *c);
 
-/* Accepted and refused calls, and those of them by Arikan's transform. */
-unsigned long writer_tally_accepted(void);
-unsigned long writer_tally_refused(void);
-unsigned long writer_tally_arikan(void);
+struct tally_totals writer_tally_totals(void);
 
 /* Prints the counts. Gives 0 and says so if something was not reached a few times: at some m,
  * by one of both transforms, an accepted call, a refusal that it can have, each of the four

@@ -6,12 +6,15 @@ use fields::DecodedFields;
 use fields::fields_of;
 use job::JobFields;
 use job_writer::RecordLength;
+use test_load::LoadFields;
 ghost use mathlib.Core.Path.{_≡_};
 ghost use Rattle.spec.specs.Code.{code};
 ghost use Rattle.spec.specs.Outcome.{written, encodeOutcome, extractOutcome, lent, decodeOutcome, readOutcome};
 ghost use Rattle.spec.specs.JobWriter.{fieldsOf, writeOutcome};
+ghost use Rattle.spec.specs.TestLoad.{loadOutcome};
 ghost use Rattle.job.specs.Answer.{hostReading, forHost};
 ghost use Rattle.job_writer.specs.Answer.{hostWriting, lengthForHost};
+ghost use Rattle.test_load.specs.Answer.{hostLoading, loadForHost};
 ghost use Rattle.caldurrex.specs.Choice.{chosen};
 ghost use Rattle.caldurrex.specs.Fields.{returned, asReturned};
 
@@ -110,4 +113,22 @@ pub extern "C" fn caldurrex_write_job(
         (now (bytes .entry))) ⌝ }
 {
     job_writer::write_job_for_host(m, arikan != 0, map, pairs, list, stop, frame, soft, bytes)
+}
+
+#[no_mangle]
+pub extern "C" fn caldurrex_test_load(
+    state: u32,
+    m: u32,
+    arikan: u8,
+    map: &[u8],
+    pairs: &[u8],
+    frame: u32,
+    bytes: &mut [u8],
+    payload: &mut [u8],
+) -> LoadFields
+    ensures { λ r. ⌜ hostLoading r (now (bytes .exit)) (now (payload .exit))
+        ≡ loadForHost (loadOutcome state (code m (chosen arikan) (now (map .entry)) (now (pairs .entry))) frame (now (bytes .entry))
+        (now (payload .entry))) ⌝ }
+{
+    test_load::test_load_for_host(state, m, arikan != 0, map, pairs, frame, bytes, payload)
 }

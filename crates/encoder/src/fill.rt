@@ -32,7 +32,7 @@ fn spread_payload(map: &[u8], payload: &[u8], input: &mut [u8])
 }
 
 // The input of a payload in the code of as many positions. Each f gets its sum, in rising order, so that the bits before it have theirs by then.
-pub(crate) fn fill_input(map: &[u8], pairs: &[u8], payload: &[u8], input: &mut [u8])
+pub fn fill_input(map: &[u8], pairs: &[u8], payload: &[u8], input: &mut [u8])
     requires { ⌜ (length (now input) ≤ 8 * length (now map))
         × (clear (flagsOf (length (now input)) (now map)) ≡ length (now payload))
         × (Ruled (flagsOf (length (now input)) (now map)) (now pairs)) ⌝ }

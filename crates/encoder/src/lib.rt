@@ -5,7 +5,7 @@ use code::bit_refusal;
 use code::code_refusal;
 use code::payload_size;
 use code::size;
-use fill::fill_input;
+pub use fill::fill_input;
 use slices::fill_bytes;
 use transform::transform_word;
 ghost use mathlib.Core.Bool.{Bool};

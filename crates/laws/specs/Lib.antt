@@ -10,6 +10,8 @@ pub mod Cells
 pub mod Bounds
 pub mod CodeScore
 pub mod ListCost
+pub mod EveryScore
+pub mod Agreement
 pub mod CeilingCost
 pub mod Inverse
 pub mod ArikanPlaces
@@ -27,5 +29,8 @@ pub mod Accepted
 pub mod DecodeCall
 pub mod WriteCall
 pub mod WrittenForm
+pub mod Draws
+pub mod Noise
+pub mod LoadCall
 pub mod FullScale
 pub mod ScoreOfChildren

@@ -1,7 +1,7 @@
 -- The paper decoder's order, by costs: the lower cost first, then the prefix with 0 at the first place where two differ.
 use mathlib.Core.Path.{_≡_, refl, ap, ap₂, _∙_}
 use mathlib.Core.Bool.{Bool, true, false, not, cond, _&&_, _||_}
-use mathlib.Core.List.{List, [], _∷_, _++_}
+use mathlib.Core.List.{List, [], _∷_, _++_, map}
 use Prim.Native.Nat.{ℕ, zero, suc, _+_, _-_, _*_, _<_, _≤_}
 use native.Mathlib.Omega.{arith}
 use lib.ListN.{length, length-append, take, drop, getD, replicate, length-replicate}
@@ -52,6 +52,14 @@ module _ {A : Type 0} {P : A → Type 0} where
   pub all-append : {u v : List A} → All P u → All P v → All P (u ++ v)
   all-append none q = q
   all-append (more p a) q = more p (all-append a q)
+
+  pub all-map : {Q : A → Type 0} {xs : List A} → ((a : A) → P a → Q a) → All P xs → All Q xs
+  all-map f none = none
+  all-map f (more {x} p a) = more (f x p) (all-map f a)
+
+pub all-under : {A B : Type 0} (f : A → B) {xs : List A} (P : B → Type 0) → All (λ (a : A). P (f a)) xs → All P (map f xs)
+all-under f P none = none
+all-under f P (more p a) = more p (all-under f P a)
 
 -- ---- two tests that agree on the elements sort alike
 module _ {A : Type 0} {P : A → Type 0} (le le′ : A → A → Bool) (same : (a b : A) → P a → P b → le a b ≡ le′ a b) where
@@ -176,6 +184,9 @@ pub record Prefix (n : ℕ) (w : List ℕ) : Type 0 where
 pub all-prefix : (n : ℕ) {ws : List (List ℕ)} → All (Long n) ws → All Bits ws → All (Prefix n) ws
 all-prefix n none none = none
 all-prefix n (more h a) (more t b) = more (record { long = h; bits = t }) (all-prefix n a b)
+
+pub children-prefix : (c : Code) (i : ℕ) (w : List ℕ) → Prefix i w → All (Prefix (suc i)) (children c i w)
+children-prefix c i w p = all-prefix (suc i) (goes-long i w (goes c i w) (p .long)) (children-bits c i w (p .bits))
 
 module _ (T : List ℕ → List ℕ) (c : Code) (y : List ℤ) (l : ℕ) where
   pub live-prefix : (i : ℕ) → All (Prefix i) (live T c y l i)

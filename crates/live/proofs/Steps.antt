@@ -11,7 +11,7 @@ use lib.ListN.{length, take, drop, getD, length-append, length-map}
 use lib.Seq.{take-suc, take-length}
 use lib.Dec.{leb}
 use Rattle.spec.specs.Decoder.{sortBy, lexBefore, continued, families}
-use Rattle.laws.specs.ListCost.{cheaper, All, none, more, all-sort, all-take, all-drop, all-append, Long}
+use Rattle.laws.specs.ListCost.{cheaper, All, none, more, all-sort, all-take, all-drop, all-append, all-map, all-under, Long}
 use Rattle.laws.specs.CeilingCost.{leastOf}
 use Rattle.live.specs.Entries.{codeOf, costOf, placeOf, bitOf, parentOf, lexOf, branches, firstOf, childrenOf}
 use Rattle.live.specs.Rising.{Pairs, none₂, more₂}
@@ -19,7 +19,7 @@ use Rattle.live.specs.Lists.{entries, entries-count, Holds}
 use Rattle.live.specs.Lost.{lostWith}
 use Rattle.live.specs.declared.Live.{Live}
 use Rattle.live.specs.Stands.{Rep, Bred, Step, CostsAre, BitsAre, Kept, Position}
-use Rattle.live.proofs.Sorting.{all-map, all-at, pairs-of, pairs-append, sort-agree, all-under, getD-map, map-take, map-drop, map-sort, maps-agree}
+use Rattle.live.proofs.Sorting.{all-at, pairs-of, pairs-append, sort-agree, getD-map, map-take, map-drop, map-sort, maps-agree}
 use Rattle.live.proofs.Lexical.{lex-child, lex-lt, lex-agree, place-code, code-order}
 
 -- a child: the rank of its parent, and its bit

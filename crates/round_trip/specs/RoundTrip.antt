@@ -66,6 +66,12 @@ module _ {c : Code} {w : List ℕ} (g : Given c (size c) w) where
 front : (w out : List ℕ) (n : ℕ) (o : Written) → written 0 (padded 0 (length out) w) ≡ o → length w ≡ n → take n (o .output) ≡ w
 front w out n o e l = ap (λ (o : Written). take n (o .output)) (sym e) ∙ take-at w (replicate (length out - length w) 0) n l
 
+-- the encoder's output begins with the word
+pub word-written : (c : Code) (payload out : List ℕ) → encodeRefusal c payload (length out) ≡ 0 → take (size c) (encodeOutcome c payload out .output) ≡ encoded c payload
+word-written c payload out e =
+    let g : Given c (payloadSize c) payload = encodes c payload (length out) e .0 in
+    front (encoded c payload) out (size c) (encodeOutcome c payload out) (encode-served c payload out (sym e)) (encoded-given (g .accepts) (g .bits) .long)
+
 -- the word of an accepted payload, given to the extractor with room for k bytes, is accepted and gives the payload
 pub extract-after-encode : (c : Code) (payload out back : List ℕ) → encodeRefusal c payload (length out) ≡ 0 → payloadSize c ≤ length back
     → extractOutcome c (take (size c) (encodeOutcome c payload out .output)) back ≡ written 0 (padded 0 (length back) payload)
@@ -74,7 +80,7 @@ extract-after-encode c payload out back e h =
     let w : List ℕ = encoded c payload in
     let x : Given c (size c) w = encoded-given (g .accepts) (g .bits) in
     let z : extractRefusal c w (length back) ≡ 0 = extract-accepted c w (length back) x (encoded-intact (g .accepts) (g .bits)) h in
-    ap (λ (l : List ℕ). extractOutcome c l back) (front w out (size c) (encodeOutcome c payload out) (encode-served c payload out (sym e)) (x .long))
+    ap (λ (l : List ℕ). extractOutcome c l back) (word-written c payload out e)
     ∙ sym (extract-served c w back (sym z))
     ∙ ap (λ (l : List ℕ). written 0 (padded 0 (length back) l)) (extracted-encoded (g .accepts) (g .bits) (g .long))
 

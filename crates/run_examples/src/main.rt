@@ -6,6 +6,7 @@ mod coding;
 mod decoding;
 mod lines;
 mod lists;
+mod loading;
 mod say;
 mod writing;
 
@@ -16,16 +17,16 @@ use lines::find;
 use lines::word_end;
 use say::say;
 
-// The second letter tells the names encode, extract, decode and write apart.
+// The second letter tells the names encode, extract, decode, write and load apart.
 fn run_call(call: &[u8]) {
     let letter = byte_at(call, 3);
     let at = word_end(call, 1);
-    if letter == b'e' {
-        block_line(false, call, at);
-    } else if letter == b'r' {
-        block_line(true, call, at);
+    if letter == b'n' {
+        code_line(false, call, at);
+    } else if letter == b'x' {
+        code_line(true, call, at);
     } else if letter != 0 {
-        code_line(letter == b'x', call, at);
+        block_line(letter, call, at);
     }
 }
 

@@ -55,7 +55,7 @@ pub record BestRow (c : Code) (soft : List ℤ) (r : Row) : Type 0 where
 -- ---- the decoder on paper
 module _ (T′ : List ℕ → List ℕ) (c : Code) (y : List ℤ) (l : ℕ) where
   -- an input correlates no higher than any of its prefixes scores
-  prefixes-reach : (u : List ℕ) → length u ≡ size c → Bits u → (i : ℕ) → i ≤ size c → T (leZ (correlation y (T′ u)) (scoreOf T′ c y l (take i u)))
+  pub prefixes-reach : (u : List ℕ) → length u ≡ size c → Bits u → (i : ℕ) → i ≤ size c → T (leZ (correlation y (T′ u)) (scoreOf T′ c y l (take i u)))
   prefixes-reach u e t i h =
       subst (λ (v : List ℕ). T (leZ (correlation y (T′ v)) (scoreOf T′ c y l (take i u)))) (take-append-drop i u)
       (no-completion-above T′ y (size c) (take i u) (drop i u) (omega (arith, length-take i u, length-drop i u)) (bits-drop t i))
@@ -80,11 +80,11 @@ module _ (T′ : List ℕ → List ℕ) (c : Code) (y : List ℤ) (l : ℕ) wher
 -- ---- the theorems
 module _ (c : Code) (l p : ℕ) (soft : List ℤ) (x : Lent) (a : AcceptedCall c l p soft x) where
   -- there is a flag for each position
-  flags : length (frozen c) ≡ size c
+  pub flags : length (frozen c) ≡ size c
   flags = length-frozen c (map-right c l p soft (roomOf x) (accepted-faults c l p soft x a))
 
   -- the call gives the ceiling of the decoder on paper
-  ceiling-is : ceilingOf (decodeOutcome c l p soft x .answer) ≡ ceiling (codeTransform c) c (taken soft) l p
+  pub ceiling-is : ceilingOf (decodeOutcome c l p soft x .answer) ≡ ceiling (codeTransform c) c (taken soft) l p
   unfolding decodeServed
   ceiling-is = ap (λ (o : Decoding). ceilingOf (o .answer)) (accepted-is c l p soft x a)
 

@@ -6,3 +6,5 @@ pub mod SearchCeiling
 pub mod CodeInputs
 pub mod Ceiling
 pub mod CeilingExamples
+pub mod SoleLeader
+pub mod CleanBlock

@@ -11,6 +11,8 @@ pub mod RecordExample
 pub mod Outcome
 pub mod JobWriter
 pub mod WriterExamples
+pub mod TestLoad
+pub mod LoadExamples
 pub mod SignedOrder
 pub mod ScoreIsLargest
 pub mod OrderIsTotal

@@ -8,14 +8,14 @@ byte-at-requires c κs = tt
 word-end-requires : tie.Need-word-end-requires
 word-end-requires c κs = tt
 
-block-line-requires : tie.Need-block-line-requires
-block-line-requires c κs = tt
-
-block-line-requires-2 : tie.Need-block-line-requires-2
-block-line-requires-2 c κs = tt
-
 code-line-requires : tie.Need-code-line-requires
 code-line-requires c κs = tt
+
+code-line-requires-2 : tie.Need-code-line-requires-2
+code-line-requires-2 c κs = tt
+
+block-line-requires : tie.Need-block-line-requires
+block-line-requires c κs = tt
 
 returns : tie.Need-returns
 returns c = tt
@@ -35,9 +35,9 @@ run-call-spec =
     (tie.spec
     byte-at-requires
     word-end-requires
-    block-line-requires
-    block-line-requires-2
     code-line-requires
+    code-line-requires-2
+    block-line-requires
     returns
     returns-2
     returns-3

@@ -1,0 +1,3 @@
+pub mod EndToEnd
+pub mod EndToEndExamples
+pub mod TestLoad
