@@ -10,7 +10,7 @@ use Rattle.spec.specs.Faults.{Fault}
 use Rattle.spec.specs.Refusals.{codeFaults, lengthFault, bitFault}
 use Rattle.laws.specs.FirstFault.{First, none, later, found-after, none-before, none-after, Numbered, end, next, same, same-of}
 use Rattle.laws.specs.MapBits.{flagsOf, no-above, bits-not-above}
-use Rattle.laws.specs.Accepted.{Accepted, accepted-of, no-fault}
+use Rattle.laws.specs.Accepted.{Accepted, accepted-of, no-fault, code-numbers}
 
 -- the flags that a loop over n positions reads
 pub flags-are : (m n : ℕ) (arikan : Bool) (map pairs : List ℕ) → n ≡ 2 ^ m → flagsOf n map ≡ frozen (code m arikan map pairs)
@@ -27,9 +27,6 @@ pub record Given (c : Code) (n : ℕ) (given : List ℕ) : Type 0 where
   pub accepts : Accepted c
   pub long : length given ≡ n
   pub bits : Bits given
-
-abbrev pub code-numbers : (c : Code) → Numbered (codeFaults c)
-code-numbers c = next (next (next (next (next (next end)))))
 
 abbrev pub given-numbers : (c : Code) (n : ℕ) (given : List ℕ) → Numbered (givenFaults c n given)
 given-numbers c n given = next (next (next (next (next (next (next (next end)))))))

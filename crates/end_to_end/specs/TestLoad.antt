@@ -16,11 +16,11 @@ use Rattle.spec.specs.TestLoad.{draws, afterDraws, drawnPayload, drawnSoft, loa
 use Rattle.laws.specs.Cost.{magnitude}
 use Rattle.laws.specs.ListCost.{All, all-map}
 use Rattle.laws.specs.FirstFault.{none-before}
-use Rattle.laws.specs.Accepted.{Accepted, accepted-of}
+use Rattle.laws.specs.Accepted.{Accepted, accepted-of, code-numbers}
 use Rattle.laws.specs.DecodeCall.{AcceptedCall, accepted-faults}
 use Rattle.laws.specs.Agreement.{Allows, Each, allowed-at-sum}
 use Rattle.laws.specs.Noise.{word-small, word-taken, word-allows}
-use Rattle.laws.specs.LoadCall.{length-payload, bits-payload, bits-word, drawn-long, code-numbers, load-is-written, payload-given}
+use Rattle.laws.specs.LoadCall.{length-payload, bits-payload, bits-word, drawn-long, load-is-written, payload-given}
 use Rattle.search.specs.Ceiling.{ceilingOf}
 use Rattle.search.specs.CleanBlock.{no-score-above, ceiling-at-the-sum}
 use Rattle.job_round_trip.specs.DecodedAlike.{decodedFrom, decoded-alike}
@@ -59,7 +59,7 @@ module _ (s : ℕ) (c : Code) (l p : ℕ) (x : Lent) (a : AcceptedCall c l p (dr
   accepts : Accepted c
   accepts =
       accepted-of
-      (none-before (runFaults (size c) l p (drawnSoft s c) ++ tableFaults (size c) l (roomOf x)) (code-numbers s c 0)
+      (none-before (runFaults (size c) l p (drawnSoft s c) ++ tableFaults (size c) l (roomOf x)) (code-numbers c)
       (accepted-faults c l p (drawnSoft s c) x a))
 
   is-sum : pos (magnitude (taken (drawnSoft s c))) ≡ correlation (drawnSoft s c) (encoded c (drawnPayload s c))

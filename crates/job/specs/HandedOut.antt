@@ -14,6 +14,7 @@ use Rattle.spec.specs.Refusals.{Room, outOfRange, codeFaults, runFaults, tableF
 use Rattle.spec.specs.Record.{exponent, isArikan, positions, listSize, stopPosition, pairCount, recordMap, recordPairs, recordCode, softAt, recordSoft, shapeFaults, fieldFaults}
 use Rattle.spec.specs.Outcome.{padded, Job, job, refusedJob, Reading, reading, readRefusal, readServed, readOutcome, decodeRefusal}
 use Rattle.laws.specs.FirstFault.{First, none, later, of-first, first-is, is-first, end, next, found-after, same, not-either}
+use Rattle.laws.specs.Accepted.{code-numbers}
 use Rattle.laws.specs.ListCost as each
 use Rattle.laws.specs.ListCost.{All, more}
 use Rattle.laws.specs.Taken.{saturated-small, taken-range}
@@ -59,7 +60,7 @@ module _ (s : List ℕ) (maps softs pairs : ℕ) (e : 0 ≡ readRefusal s maps s
   unfolding decodeRefusal
   block-refusal r =
       is-first (decodeFaults (recordCode s) (listSize s) (stopPosition s) (taken (recordSoft s)) r) _
-      (found-after (next (next (next (next (next (next end)))))) (block-accepted .0)
+      (found-after (code-numbers (recordCode s)) (block-accepted .0)
       (found-after (next (next (next (next end)))) (block-accepted .1) (first-is (tableFaults (positions s) (listSize s) r))))
 
 -- within ±2,047, where none is out of range, with zeros behind

@@ -10,7 +10,7 @@ use borrow.Author.Tests.{ltb-false, le-ltb}
 use Rattle.spec.specs.Code.{Code, size, mapBytes, frozen, pairsIn}
 use Rattle.spec.specs.Faults.{first, some}
 use Rattle.spec.specs.Refusals.{pastEnd, wrongPair, notRising, pairFaults, codeFaults}
-use Rattle.laws.specs.FirstFault.{First, none, later, of-first, inside, inside-of, same, same-of, not-either}
+use Rattle.laws.specs.FirstFault.{First, none, later, of-first, Numbered, end, next, inside, inside-of, same, same-of, not-either}
 use Rattle.laws.specs.MapBits.{length-frozen}
 
 -- pairs that are not refused, by the flags of the positions
@@ -46,6 +46,10 @@ pub no-fault : {c : Code} → Accepted c → First (codeFaults c) 0
 no-fault {c} a =
     later (inside 2 10 (c .m) (a .low) (a .high))
     (later (same (length (c .map)) (mapBytes (size c)) (a .bytes)) (later (a .ends) (no-pair-fault (a .ruled))))
+
+-- each of the code's conditions has a number
+abbrev pub code-numbers : (c : Code) → Numbered (codeFaults c)
+code-numbers c = next (next (next (next (next (next end)))))
 
 pub accepted : (c : Code) → 0 ≡ first (codeFaults c) → Accepted c
 accepted c e = accepted-of (of-first (codeFaults c) 0 e)

@@ -2,10 +2,10 @@
 -- writer gives, and the next state is not 0.
 use mathlib.Core.Path.{_≡_, refl, sym, ap, ap₂, subst, _∙_}
 use mathlib.Core.Bool.{false}
-use mathlib.Core.List.{List, [], _∷_, _++_}
+use mathlib.Core.List.{List, [], _∷_}
 use Prim.Native.Nat.{ℕ, zero, suc, _-_, _≤_, _<_}
 use native.Mathlib.Omega.{arith}
-use borrow.Author.Tests.{ltb-false, le-ltb, eqb-false, ne-eqb}
+use borrow.Author.Tests.{ltb-false, eqb-false}
 use lib.Dec.{eqb}
 use lib.ListN.{length, take, replicate}
 use lib.Seq.{take-at}
@@ -17,9 +17,9 @@ use Rattle.spec.specs.Outcome.{long, writing}
 use Rattle.spec.specs.JobWriter.{Fields, writtenRecord, writeServed, writeOutcome}
 use Rattle.spec.specs.TestLoad.{draws, afterDraws, drawnPayload, drawnSoft, nextState, loadFields, loadRecord, loadFaults, loadRefusal, loaded, refusedLoad, Loading, loading, loadServed, loadOutcome}
 use Rattle.laws.specs.CodeTransform.{length-transformed, bits-transformed}
-use Rattle.laws.specs.FirstFault.{First, none, later, is-first, of-first, first-before, first-after, Numbered, end, next, none-before, none-after, found-after, settled-refused, settled-served}
+use Rattle.laws.specs.FirstFault.{First, none, later, is-first, of-first, first-before, first-after, none-before, none-after, settled-refused, settled-served}
 use Rattle.laws.specs.Inputs.{length-input, bits-input}
-use Rattle.laws.specs.Accepted.{Accepted, accepted-of, no-fault, flag-count}
+use Rattle.laws.specs.Accepted.{Accepted, accepted-of, code-numbers, flag-count}
 use Rattle.laws.specs.WriteCall.{Writable, write-accepted, write-served}
 use Rattle.laws.specs.Noise.{word-range}
 use Rattle.laws.specs.Draws.{State, after-state, length-draws, length-bits, bits-drawn, length-noisy}
@@ -75,9 +75,6 @@ module _ (s : ℕ) (c : Code) where
     abbrev pub ownFaults : ℕ → ℕ → List Fault
     ownFaults records payloads = fault 24 (eqb s 0) ∷ roomFault (length (loadRecord s c frame)) records ∷ roomFault (payloadSize c) payloads ∷ []
 
-    abbrev pub code-numbers : Numbered (codeFaults c)
-    code-numbers = next (next (next (next (next (next end)))))
-
     -- a load that is not refused
     pub record Loads (records payloads : ℕ) : Type 0 where
       pub accepts : Accepted c
@@ -90,7 +87,7 @@ module _ (s : ℕ) (c : Code) where
       unfolding loadRefusal
       loads e =
           let all = of-first (loadFaults s c frame records payloads) 0 e in
-          parts (none-before (ownFaults records payloads) code-numbers all) (none-after code-numbers all)
+          parts (none-before (ownFaults records payloads) (code-numbers c) all) (none-after (code-numbers c) all)
         where
           parts : First (codeFaults c) 0 → First (ownFaults records payloads) 0 → Loads records payloads
           parts f (later a (later b (later d none))) = record {
@@ -100,13 +97,6 @@ module _ (s : ℕ) (c : Code) where
             payload-fits = ltb-false payloads (payloadSize c) d;
           }
 
-      pub load-accepted : Loads records payloads → 0 ≡ loadRefusal s c frame records payloads
-      unfolding loadRefusal
-      load-accepted l =
-          is-first (loadFaults s c frame records payloads) 0
-          (found-after code-numbers (no-fault (l .accepts)) (later (ne-eqb s 0 (l .some-state))
-          (later (le-ltb records (length (loadRecord s c frame)) (l .record-fits)) (later (le-ltb payloads (payloadSize c) (l .payload-fits)) none))))
-
       -- the number of the code, where it has one, and else the load's own
       pub code-refused : (k : ℕ) → k ≡ first (codeFaults c) → (k ≡ 0 → ⊥) → k ≡ loadRefusal s c frame records payloads
       unfolding loadRefusal
@@ -114,7 +104,7 @@ module _ (s : ℕ) (c : Code) where
 
       pub own-refused : 0 ≡ first (codeFaults c) → (k : ℕ) → First (ownFaults records payloads) k → k ≡ loadRefusal s c frame records payloads
       unfolding loadRefusal
-      own-refused e k f = first-after (codeFaults c) (ownFaults records payloads) 0 e code-numbers refl k (is-first (ownFaults records payloads) k f)
+      own-refused e k f = first-after (codeFaults c) (ownFaults records payloads) 0 e (code-numbers c) refl k (is-first (ownFaults records payloads) k f)
 
     -- ---- the call
     module _ (job payload : List ℕ) where

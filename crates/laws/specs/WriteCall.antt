@@ -12,7 +12,7 @@ use Rattle.spec.specs.Faults.{Fault, first, some, settled}
 use Rattle.spec.specs.Outcome.{long, refusedLength, Writing, writing}
 use Rattle.spec.specs.JobWriter.{Fields, writtenRecord, writeFaults, writeRefusal, writeServed, writeOutcome}
 use Rattle.laws.specs.FirstFault.{First, none, here, later, first-before, first-after, is-first, of-first, Numbered, end, next, none-before, none-after, found-after, inside, inside-of, same, same-of, settled-refused, settled-served}
-use Rattle.laws.specs.Accepted.{Accepted, accepted-of, no-fault}
+use Rattle.laws.specs.Accepted.{Accepted, accepted-of, no-fault, code-numbers}
 
 -- fields that are not refused by 1 to 7 and 15
 pub record Writable (f : Fields) : Type 0 where
@@ -26,9 +26,6 @@ pub record Writable (f : Fields) : Type 0 where
 module _ (f : Fields) where
   abbrev pub ranFaults : List Fault
   ranFaults = runFaults (size (f .code)) (f .listSize) (f .stop) (f .soft)
-
-  abbrev pub code-numbers : Numbered (codeFaults (f .code))
-  code-numbers = next (next (next (next (next (next end)))))
 
   abbrev pub run-numbers : Numbered ranFaults
   run-numbers = next (next (next (next end)))
@@ -56,8 +53,8 @@ module _ (f : Fields) where
   writes room e =
       let last : List Fault = roomFault (length (writtenRecord f)) room ∷ [] in
       let all = of-first (writeFaults f room) 0 e in
-      let run = none-after code-numbers all in
-      (writable-of (none-before (ranFaults ++ last) code-numbers all) (none-before last run-numbers run), fits (none-after run-numbers run))
+      let run = none-after (code-numbers (f .code)) all in
+      (writable-of (none-before (ranFaults ++ last) (code-numbers (f .code)) all) (none-before last run-numbers run), fits (none-after run-numbers run))
     where
       fits : First (roomFault (length (writtenRecord f)) room ∷ []) 0 → length (writtenRecord f) ≤ room
       fits (later d none) = ltb-false room (length (writtenRecord f)) d
@@ -66,7 +63,7 @@ module _ (f : Fields) where
   unfolding writeRefusal
   write-accepted room w h =
       is-first (writeFaults f room) 0
-      (found-after code-numbers (no-fault (w .accepts)) (found-after run-numbers (run-none w) (later (le-ltb room (length (writtenRecord f)) h) none)))
+      (found-after (code-numbers (f .code)) (no-fault (w .accepts)) (found-after run-numbers (run-none w) (later (le-ltb room (length (writtenRecord f)) h) none)))
 
   -- 1 to 7 and 15, and then 10
   abbrev pub givenFaults : List Fault
@@ -78,7 +75,7 @@ module _ (f : Fields) where
   pub given-none : 0 ≡ first givenFaults → Writable f
   given-none e =
       let all = of-first givenFaults 0 e in
-      writable-of (none-before ranFaults code-numbers all) (none-after code-numbers all)
+      writable-of (none-before ranFaults (code-numbers (f .code)) all) (none-after (code-numbers (f .code)) all)
 
   pub given-refused : (room k : ℕ) → k ≡ first givenFaults → (k ≡ 0 → ⊥) → k ≡ writeRefusal f room
   unfolding writeRefusal

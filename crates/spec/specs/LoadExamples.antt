@@ -4,7 +4,7 @@ use mathlib.Core.Bool.{Bool, true, false}
 use mathlib.Core.List.{List, [], _∷_, map}
 use Prim.Native.Nat.{ℕ}
 use lib.ListN.{replicate}
-use lib.IntN.{ℤ, pos, negsuc}
+use lib.IntN.{pos, negsuc}
 use Rattle.spec.specs.Bits.{bitsOf, unpacked}
 use Rattle.spec.specs.Transform.{transform, arikanTransform}
 use Rattle.spec.specs.Code.{Code, code, frozen, frozenBit, inputFor, encoded}

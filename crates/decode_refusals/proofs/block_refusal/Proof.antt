@@ -6,8 +6,8 @@ use borrow.Author.Needs.{needs}
 use Rattle.spec.specs.Code.{Code, code}
 use Rattle.spec.specs.Faults.{first}
 use Rattle.spec.specs.Refusals.{codeFaults, runFaults}
-use Rattle.laws.specs.Accepted.{Accepted, accepted}
-use Rattle.laws.specs.FirstFault.{first-before, first-after, next, end}
+use Rattle.laws.specs.Accepted.{Accepted, code-numbers, accepted}
+use Rattle.laws.specs.FirstFault.{first-before, first-after}
 use Rattle.decode_refusals.proofs.block_refusal.Statement.{statement}
 use Rattle.decode_refusals.proofs.block_refusal.Tie as tie
 
@@ -41,7 +41,7 @@ returns-2 c = λ a.
     let z = c .before .before in
     let s = start (z .before) .args in
     first-after (codeFaults (given (z .before) a)) (runFaults (2 ^ s .m) (s .l) (s .p) (s .soft .now)) (z .before .code-refusal .result)
-    (z .before .code-refusal .ensures a) (next (next (next (next (next (next end)))))) (z .if1 .left) (c .run-refusal .result)
+    (z .before .code-refusal .ensures a) (code-numbers (given (z .before) a)) (z .if1 .left) (c .run-refusal .result)
     (c .run-refusal .ensures ∙ ap (λ (n : ℕ). first (runFaults n (s .l) (s .p) (s .soft .now))) (c .before .size .ensures .0))
 
 pub block-refusal-spec : {M : Type 1} → statement M

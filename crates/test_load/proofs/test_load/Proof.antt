@@ -1,6 +1,6 @@
 -- `test_load::test_load` meets its contract: refused, or the record and the payload that are drawn, and 0 behind both. Assumes nothing.
 use mathlib.Core.Path.{_≡_, sym, ap, ap₂, _∙_}
-use mathlib.Core.Bool.{Bool, true}
+use mathlib.Core.Bool.{Bool}
 use mathlib.Core.List.{List, _++_}
 use Prim.Native.Nat.{ℕ, _≤_}
 use native.Mathlib.Omega.{arith}
@@ -9,11 +9,11 @@ use lib.ListN.{length, take, drop}
 use lib.Seq.{length-take-le}
 use Rattle.spec.specs.Code.{Code, code, payloadSize}
 use Rattle.spec.specs.Outcome.{padded}
-use Rattle.spec.specs.TestLoad.{drawnPayload, nextState, loadFields, loadRecord, loadRefusal, loaded, loading, loadServed}
+use Rattle.spec.specs.TestLoad.{loadFields, loadRecord, loadRefusal, loaded, loading, loadServed}
 use Rattle.slices.specs.Fill.{filledFrom, filled-behind}
-use Rattle.place.specs.Put.{Begins, whole}
+use Rattle.place.specs.Put.{whole}
 use Rattle.laws.specs.WrittenForm.{written-at-most}
-use Rattle.laws.specs.LoadCall.{Loads, loads, load-writable, load-accepted, load-refused, load-served, length-payload}
+use Rattle.laws.specs.LoadCall.{Loads, loads, load-writable, load-refused, load-served}
 use Rattle.test_load.proofs.test_load.Statement.{statement}
 use Rattle.test_load.proofs.test_load.Tie as tie
 

@@ -5,7 +5,7 @@ use Prim.Native.Nat.{ℕ, _*_, _^_, _≤_}
 use native.Mathlib.Omega.{arith}
 use borrow.Author.Needs.{needs}
 use lib.ListN.{length}
-use Rattle.spec.specs.Code.{Code, code, frozen, clear, payloadSize, inputFor, codeTransform, encoded}
+use Rattle.spec.specs.Code.{Code, code, frozen, clear, inputFor, codeTransform, encoded}
 use Rattle.spec.specs.TestLoad.{afterDraws, drawnBits, drawnPayload}
 use Rattle.laws.specs.Accepted.{Ruled}
 use Rattle.laws.specs.Inputs.{bits-input}

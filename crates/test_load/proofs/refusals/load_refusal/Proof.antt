@@ -2,6 +2,7 @@
 -- for the record is measured before anything is drawn, since its length does not depend on the soft values. Assumes nothing.
 use mathlib.Core.Path.{_≡_, sym, ap, _∙_}
 use mathlib.Core.Bool.{Bool, true}
+use mathlib.Core.List.{[], _∷_}
 use Prim.Native.Nat.{ℕ}
 use native.Mathlib.Omega.{arith}
 use borrow.Author.Needs.{needs}
@@ -9,10 +10,10 @@ use borrow.Author.Tests.{eq-eqb, ne-eqb, lt-ltb, le-ltb}
 use lib.ListN.{length}
 use Rattle.spec.specs.Code.{Code, code, payloadSize}
 use Rattle.spec.specs.Faults.{first}
-use Rattle.spec.specs.Refusals.{codeFaults}
+use Rattle.spec.specs.Refusals.{codeFaults, roomFault}
 use Rattle.spec.specs.JobWriter.{fieldsOf, writtenRecord}
-use Rattle.spec.specs.TestLoad.{drawnSoft, loadRecord}
-use Rattle.laws.specs.FirstFault.{none, here, later}
+use Rattle.spec.specs.TestLoad.{drawnSoft, loadRecord, loadRefusal}
+use Rattle.laws.specs.FirstFault.{First, none, here, later}
 use Rattle.laws.specs.Accepted.{Accepted, accepted}
 use Rattle.laws.specs.LoadCall.{length-soft, code-refused, own-refused}
 use Rattle.test_load.proofs.refusals.load_refusal.Statement.{statement}
@@ -86,33 +87,30 @@ returns-3 c a =
     (later (ne-eqb (x .s) 0 (b .if2 .left))
     (here (lt-ltb (x .records) (length (loadRecord (x .s) (given s a) (x .frame))) (omega (arith, need l a, c .if3 .taken)))))
 
-returns-4 : tie.Need-returns-4
-returns-4 c a =
-    let d = c .before in
+-- past the test of the room for the record: the number is that of the last test
+last : (d : tie.Else3) (a : Bool) → let s = start (d .before .before .before .before .before .before) in let x = s .args in
+    (k : ℕ) → First (roomFault (payloadSize (given s a)) (x .payloads) ∷ []) k → k ≡ loadRefusal (x .s) (given s a) (x .frame) (x .records) (x .payloads)
+last d a k f =
     let b = d .before in
-    let k = b .before in
-    let l = k .before in
+    let l = b .before .before in
     let e = l .before .before in
     let s = start (e .before) in
     let x = s .args in
-    own-refused (x .s) (given s a) (x .frame) (x .records) (x .payloads) (passed e a) 10
+    own-refused (x .s) (given s a) (x .frame) (x .records) (x .payloads) (passed e a) k
     (later (ne-eqb (x .s) 0 (b .if2 .left))
-    (later (le-ltb (x .records) (length (loadRecord (x .s) (given s a) (x .frame))) (omega (arith, need l a, d .if3 .left)))
-    (here (lt-ltb (x .payloads) (payloadSize (given s a)) (omega (arith, clear k a, c .if4 .taken))))))
+    (later (le-ltb (x .records) (length (loadRecord (x .s) (given s a) (x .frame))) (omega (arith, need l a, d .if3 .left))) f))
+
+returns-4 : tie.Need-returns-4
+returns-4 c a =
+    let k = c .before .before .before in
+    let s = start (k .before .before .before .before) in
+    last (c .before) a 10 (here (lt-ltb (s .args .payloads) (payloadSize (given s a)) (omega (arith, clear k a, c .if4 .taken))))
 
 returns-5 : tie.Need-returns-5
 returns-5 c a =
-    let d = c .before in
-    let b = d .before in
-    let k = b .before in
-    let l = k .before in
-    let e = l .before .before in
-    let s = start (e .before) in
-    let x = s .args in
-    own-refused (x .s) (given s a) (x .frame) (x .records) (x .payloads) (passed e a) 0
-    (later (ne-eqb (x .s) 0 (b .if2 .left))
-    (later (le-ltb (x .records) (length (loadRecord (x .s) (given s a) (x .frame))) (omega (arith, need l a, d .if3 .left)))
-    (later (le-ltb (x .payloads) (payloadSize (given s a)) (omega (arith, clear k a, c .if4 .left))) none)))
+    let k = c .before .before .before in
+    let s = start (k .before .before .before .before) in
+    last (c .before) a 0 (later (le-ltb (s .args .payloads) (payloadSize (given s a)) (omega (arith, clear k a, c .if4 .left))) none)
 
 pub load-refusal-spec : {M : Type 1} → statement M
 load-refusal-spec =
