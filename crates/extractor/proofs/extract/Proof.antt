@@ -1,18 +1,17 @@
 -- `extractor::extract` meets its contract: the tests of the code and the word, then what is left on the input. Assumes nothing.
 use mathlib.Core.Path.{_≡_, sym, ap, _∙_}
 use mathlib.Core.Bool.{Bool}
-use mathlib.Core.List.{List, _++_}
-use Prim.Native.Nat.{ℕ, _^_}
-use native.Mathlib.Omega.{arith}
+use mathlib.Core.List.{List}
+use Prim.Native.Nat.{ℕ, _^_, _≤_}
 use borrow.Author.Needs.{needs}
-use lib.ListN.{length, take, drop, replicate, length-append}
-use lib.Seq.{length-take-le, take-at}
+use lib.ListN.{length, take, replicate}
 use Rattle.spec.specs.Code.{Code, code, inputOf}
 use Rattle.spec.specs.Faults.{Fault}
 use Rattle.spec.specs.Outcome.{extractRefusal}
 use Rattle.laws.specs.FirstFault.{of-first, first-before}
 use Rattle.code.specs.Given.{Given, givenFaults, given-of}
 use Rattle.extractor.specs.ExtractCall.{inputFaults, payloadOutcome, extract-refused, extract-input}
+use Rattle.slices.specs.LocalPart.{lent-long, part-inside, part-is, part-long}
 use Rattle.extractor.proofs.extract.Statement.{statement}
 use Rattle.extractor.proofs.extract.Tie as tie
 
@@ -56,17 +55,17 @@ array-borrow-prefix-input c = search needs
 abbrev zeros : List ℕ
 zeros = replicate 1024 0
 
-room : (c : tie.After-size) → length (take (c .size .result) zeros) ≡ c .size .result
-room c = length-take-le (c .size .result) zeros (c .size .ensures .1)
+lent : (c : tie.After-size) → length (take (c .size .result) zeros) ≡ c .size .result
+lent c = lent-long 0 (c .size .result) (c .size .ensures .1)
 
 slice-aggregate-write-input : tie.Need-slice-aggregate-write-input
-slice-aggregate-write-input c = sym (room (c .before))
+slice-aggregate-write-input c = sym (lent (c .before))
 
 write-input-requires : tie.Need-write-input-requires
 write-input-requires c κs =
     let z = c .before in
     let g = known (z .before) (start (z .before) .args .arikan) in (
-      room z ∙ z .size .ensures .0 ∙ sym (g .long),
+      lent z ∙ z .size .ensures .0 ∙ sym (g .long),
       record {
         least = g .accepts .low;
         most = g .accepts .high;
@@ -79,30 +78,26 @@ write-input-requires c κs =
 abbrev n : tie.After-write-input → ℕ
 n c = c .before .before .size .result
 
-abbrev written-input : tie.After-write-input → List ℕ
-written-input c = c .write-input .last .1 .1 .1 .0
+abbrev small : (c : tie.After-write-input) → n c ≤ 1024
+small c = c .before .before .size .ensures .1
 
-input-long : (c : tie.After-write-input) → length (written-input c) ≡ n c
-input-long c = c .write-input .kept .1 .1 .1 .0 ∙ room (c .before .before)
+abbrev input : tie.After-write-input → List ℕ
+input c = c .write-input .last .1 .1 .1 .0
 
-part : (c : tie.After-write-input) → take (n c) (written-input c ++ drop (n c) zeros) ≡ written-input c
-part c = take-at (written-input c) (drop (n c) zeros) (n c) (input-long c)
+kept : (c : tie.After-write-input) → length (input c) ≡ length (take (n c) zeros)
+kept c = c .write-input .kept .1 .1 .1 .0
 
 array-share-prefix-input : tie.Need-array-share-prefix-input
-array-share-prefix-input c =
-    let w = c .before in
-    omega (arith, length-append (written-input w) (drop (n w) zeros), input-long w)
+array-share-prefix-input c = let w = c .before in part-inside 0 (n w) (small w) (input w) (kept w)
 
 slice-aggregate-write-payload : tie.Need-slice-aggregate-write-payload
-slice-aggregate-write-payload c =
-    let w = c .before .before in
-    sym (ap length (part w) ∙ input-long w)
+slice-aggregate-write-payload c = let w = c .before .before in sym (part-long 0 (n w) (small w) (input w) (kept w))
 
 write-payload-requires : tie.Need-write-payload-requires
 write-payload-requires c κs =
     let w = c .before .before .before in
     let z = w .before .before in
-    (λ arikan. known (z .before) arikan .accepts, ap length (part w) ∙ input-long w ∙ z .size .ensures .0)
+    (λ arikan. known (z .before) arikan .accepts, part-long 0 (n w) (small w) (input w) (kept w) ∙ z .size .ensures .0)
 
 same-length : tie.Need-same-length
 same-length c = search needs
@@ -116,7 +111,7 @@ returns-2 c =
     let s = start e in
     let out = s .args .payload .now in
     p .write-payload .ensures (s .args .arikan)
-    ∙ ap (λ (u : List ℕ). payloadOutcome (given s) u out) (part w ∙ w .write-input .ensures)
+    ∙ ap (λ (u : List ℕ). payloadOutcome (given s) u out) (part-is 0 (n w) (small w) (input w) (kept w) ∙ w .write-input .ensures)
     ∙ extract-input (given s) (s .args .word .now) out (sym (e .if1 .left) ∙ e .before .word-refusal .ensures (s .args .arikan))
 
 pub extract-spec : {M : Type 1} → statement M

@@ -5,7 +5,7 @@ use Prim.Native.Nat.{ℕ, _^_, _≤_}
 use borrow.Author.Needs.{needs}
 use lib.ListN.{length, take, drop, replicate}
 use Rattle.spec.specs.TestLoad.{draws, afterDraws, noisyWord, drawnSoft, nextState}
-use Rattle.test_load.proofs.LocalPart.{lent-long, part-inside, part-is, part-long}
+use Rattle.slices.specs.LocalPart.{lent-long, part-inside, part-is, part-long}
 use Rattle.test_load.proofs.drawn.draw_load.Statement.{statement}
 use Rattle.test_load.proofs.drawn.draw_load.Tie as tie
 

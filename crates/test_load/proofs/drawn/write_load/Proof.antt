@@ -11,7 +11,7 @@ use Rattle.spec.specs.TestLoad.{loadFields, loadRecord}
 use Rattle.place.specs.Put.{put-same}
 use Rattle.laws.specs.WriteCall.{Writable}
 use Rattle.laws.specs.LoadCall.{load-writable}
-use Rattle.test_load.proofs.LocalPart.{lent-long, part-inside, part-is, part-long}
+use Rattle.slices.specs.LocalPart.{lent-long, part-inside, part-is, part-long}
 use Rattle.test_load.proofs.drawn.write_load.Statement.{statement}
 use Rattle.test_load.proofs.drawn.write_load.Tie as tie
 

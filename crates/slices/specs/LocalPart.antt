@@ -1,4 +1,4 @@
--- A local array of 1,024 places, of which the first n are lent, and the array once what was written there is back. Assumes nothing.
+-- A local array of 1,024 places, of which the first n are lent, and the array once what was written there is back.
 use mathlib.Core.Path.{_≡_, ap, _∙_}
 use mathlib.Core.List.{List, _++_}
 use Prim.Native.Nat.{ℕ, _≤_}
