@@ -1,3 +1,4 @@
+pub mod EveryEntry
 pub mod BitLaws
 pub mod Places
 pub mod Cost

@@ -1,5 +1,4 @@
 mod AddedHalves
-mod EveryEntry
 mod Halving
 mod Layers
 mod Joining

@@ -11,7 +11,7 @@ use Rattle.spec.specs.Transform.{transform, inverse, tableEntry}
 use Rattle.laws.specs.BitLaws.{packed-lt, bitsOf-packed}
 use Rattle.laws.specs.Inverse.{length-transform, bits-transform, bits-inverse, length-inverse}
 use Rattle.transform.specs.Strided.{Strided, picked, placed, transformAt, inverseAt}
-use Rattle.transform.proofs.EveryEntry.{at}
+use Rattle.laws.specs.EveryEntry.{at}
 use Rattle.transform.proofs.Strides.{length-picked, bits-picked, set-before, next-pair}
 
 -- ---- the four places of a word

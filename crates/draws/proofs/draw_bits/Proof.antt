@@ -9,7 +9,7 @@ use lib.ListN.{length, drop, set, length-set}
 use lib.Seq.{drop-length}
 use Rattle.spec.specs.TestLoad.{draw, draws, afterDraws, drawnBits}
 use Rattle.laws.specs.Draws.{after-more, bits-more, length-bits}
-use Rattle.draws.proofs.Turn.{turn}
+use Rattle.slices.specs.Front.{front-more}
 use Rattle.draws.proofs.draw_bits.Statement.{statement}
 use Rattle.draws.proofs.draw_bits.Tie as tie
 
@@ -44,7 +44,7 @@ more : (s i : ℕ) (t o : List ℕ) (x b : ℕ) → i < length t → o ≡ drawn
     → set o i b ≡ drawnBits (i + 1) s ++ drop (i + 1) t
 more s i t o x b h e p q =
     let v : b ≡ draw (afterDraws i s) % 2 = q ∙ ap (λ (z : ℕ). z % 2) p in
-    turn (drawnBits i s) t o i b (length-bits i s) h e
+    front-more (drawnBits i s) t o i b (length-bits i s) h e
     ∙ ap (λ (l : List ℕ). l ++ drop (i + 1) t)
     (ap (λ (z : ℕ). drawnBits i s ++ (z ∷ [])) v ∙ sym (bits-more i s) ∙ ap (λ (k : ℕ). drawnBits k s) (sym (add-one i)))
 

@@ -13,7 +13,7 @@ use mir.Val.{toZ, ofZ}
 use mir.ValLaws.{toZ-ofZ}
 use Rattle.spec.specs.TestLoad.{draw, draws, afterDraws, noisy, noisyWord}
 use Rattle.laws.specs.Draws.{after-more, noise-more, length-noise}
-use Rattle.draws.proofs.Turn.{turn}
+use Rattle.slices.specs.Front.{front-more}
 use Rattle.draws.proofs.draw_soft.Statement.{statement}
 use Rattle.draws.proofs.draw_soft.Tie as tie
 
@@ -60,7 +60,7 @@ unfolding noisyTo
 more s i w t o x v h g e p q =
     let done : List ℤ = noisyWord (take i w) (draws i s) in
     let y : v ≡ noisy (getD w i 0) (draw (afterDraws i s)) = q ∙ ap (noisy (getD w i 0)) p in
-    turn done t o i v (length-noise w i s (omega arith)) g e
+    front-more done t o i v (length-noise w i s (omega arith)) g e
     ∙ ap (λ (l : List ℤ). l ++ drop (i + 1) t)
     (ap (λ (z : ℤ). done ++ (z ∷ [])) y ∙ sym (noise-more w i s h) ∙ ap (λ (k : ℕ). noisyWord (take k w) (draws k s)) (sym (add-one i)))
 

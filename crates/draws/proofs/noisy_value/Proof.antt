@@ -1,18 +1,18 @@
 -- `draws::noisy_value` meets its contract: the remainder, or the remainder less 40. Assumes nothing.
-use mathlib.Core.Path.{_≡_, refl, sym, ap, subst, _∙_}
-use mathlib.Core.Bool.{true}
+use mathlib.Core.Path.{_≡_, sym, ap, subst, _∙_}
 use Prim.Native.Nat.{ℕ, _%_, _<_}
 use native.Mathlib.Omega.{arith}
 use borrow.Author.Needs.{needs}
-use borrow.Author.Tests.{eq-eqb, ne-eqb, ltb-true}
+use borrow.Author.Tests.{eq-eqb, ne-eqb}
 use lib.Dec.{ltb}
+use lib.ListN.{replicate}
 use lib.IntN.{ℤ, pos, negsuc, _-ℤ_, +ℤ-comm, +ℤ-assoc, +ℤ-negℤ-cancel}
 use lib.Signed.{mag}
 use mir.Syntax.{w16}
 use mir.Val.{SFits, toZ}
 use mir.ValLaws.{toZ-pos, toZ-ofZ}
 use Rattle.spec.specs.TestLoad.{noisy}
-use Rattle.laws.specs.Noise.{every, at-each}
+use Rattle.laws.specs.EveryEntry.{at, below}
 use Rattle.draws.proofs.noisy_value.Statement.{statement}
 use Rattle.draws.proofs.noisy_value.Tie as tie
 
@@ -30,10 +30,7 @@ read x = toZ-pos w16 (x % 41) (omega arith)
 
 -- 40 less fits: one test of the 41 remainders
 small : (r : ℕ) → r < 41 → mag (pos r -ℤ pos 40) < 32768
-small r h = ltb-true (mag (pos r -ℤ pos 40)) 32768 (at-each (λ (r : ℕ). ltb (mag (pos r -ℤ pos 40)) 32768) 41 tested r h)
-  where
-    tested : every (λ (r : ℕ). ltb (mag (pos r -ℤ pos 40)) 32768) 41 ≡ true
-    tested = refl
+small r h = below (mag (pos r -ℤ pos 40)) (at (λ r x. ltb (mag (pos r -ℤ pos 40)) 32768) (replicate 41 0) tt r h)
 
 lower : (x : ℕ) → SFits w16 (toZ w16 (x % 41) -ℤ pos 40)
 lower x = subst (λ (z : ℤ). SFits w16 (z -ℤ pos 40)) (sym (read x)) (record { sfits = small (x % 41) (omega arith) })

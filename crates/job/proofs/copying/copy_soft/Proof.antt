@@ -6,8 +6,8 @@ use Prim.Native.Nat.{ℕ, suc, _+_, _-_, _*_, _≤_, _<_}
 use native.Mathlib.Numerals.{add-one}
 use native.Mathlib.Omega.{arith}
 use borrow.Author.Needs.{needs}
-use lib.ListN.{length, drop, set, getD, length-set}
-use lib.Seq.{drop-length, drop-cons, set-at, append-snoc}
+use lib.ListN.{length, drop, set, length-set}
+use lib.Seq.{drop-length}
 use lib.IntN.{ℤ}
 use mir.Syntax.{w16}
 use mir.Val.{toZ, ofZ}
@@ -15,6 +15,7 @@ use mir.ValLaws.{toZ-ofZ}
 use Rattle.spec.specs.Score.{saturated, taken}
 use Rattle.spec.specs.Refusals.{outOfRange}
 use Rattle.spec.specs.Record.{twoAt, signed16, softFrom}
+use Rattle.slices.specs.Front.{front-more}
 use Rattle.ranges.specs.InRange.{in-range-at}
 use Rattle.job.specs.SoftValues.{length-soft, soft-more, soft-at}
 use Rattle.job.proofs.copying.copy_soft.Statement.{statement}
@@ -25,10 +26,8 @@ step : (s : List ℕ) (at : ℕ) (t o : List ℤ) (i : ℕ) (v : ℤ) → i < le
     → set o i v ≡ taken (softFrom s at (i + 1)) ++ drop (i + 1) t
 step s at t o i v h e f =
     let done : List ℤ = taken (softFrom s at i) in
-    let rest : List ℤ = drop (suc i) t in
-    ap (λ (l : List ℤ). set l i v) (e ∙ ap (λ (l : List ℤ). done ++ l) (drop-cons t i v h)) ∙ set-at done (getD t i v) rest v i (length-soft s at i)
-    ∙ sym (append-snoc done v rest)
-    ∙ rw (add-one i) (ap (λ (l : List ℤ). l ++ rest) (ap (λ (z : ℤ). done ++ (z ∷ [])) f ∙ sym (soft-more s at i)))
+    front-more done t o i v (length-soft s at i) h e
+    ∙ rw (add-one i) (ap (λ (l : List ℤ). l ++ drop (suc i) t) (ap (λ (z : ℤ). done ++ (z ∷ [])) f ∙ sym (soft-more s at i)))
 
 abbrev Inv-loop : tie.InvT-loop
 Inv-loop bytes at soft₀ i₀ soft i = (i ≤ length soft₀) × (length soft ≡ length soft₀) × (soft ≡ taken (softFrom bytes at i) ++ drop i soft₀)
