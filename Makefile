@@ -1,10 +1,11 @@
 # make look   the program on the sample within seconds, with nothing proved
 # make run    decode a record: the sample, or the file RECORD names
 # make test   prove everything and compare the library and the program with the references
+# make test-floats  all 2^32 bit patterns of a float through the quantiser, against a second rounding
 # make hosts  build the library and the tools make_record and run_load, and run the example hosts written in C
 # make load   the speed of this box on test loads, and the checksums by which boxes are compared; STATE, BLOCKS,
 #             THREADS and CODES name others than the usual ones, as in make load CODES="polar64 polar256" BLOCKS=4000
-# make bench  speed and instructions a block, a record and a test load
+# make bench  speed and instructions a block, a record, a test load and a block of samples
 # make stored-records  what decode_records reads and must print, made again by the second reader and decoder
 # make clean
 
@@ -24,7 +25,7 @@ PROVED = crates.txt $(shell find crates -name '*.rt' -o -name '*.antt')
 # The sample record of the rules, as bytes.
 RECORD = crates/decode_job/stdin
 
-HOSTS = encode_extract decode_block display_early read_record decode_links
+HOSTS = encode_extract decode_block display_early read_record decode_samples decode_links
 
 # Hosts that take their settings as arguments: they are built, and not run, by make hosts.
 TOOLS = make_record run_load
@@ -33,7 +34,7 @@ TOOLS = make_record run_load
 CODES = conv64 conv256 conv1024
 SETTINGS = $(STATE:%=state=%) $(BLOCKS:%=blocks=%) $(THREADS:%=threads=%)
 
-.PHONY: look run test hosts load bench stored-records clean
+.PHONY: look run test test-floats hosts load bench stored-records clean
 
 # rt try takes the sources as they are: it asks for no proof.
 look:
@@ -50,6 +51,9 @@ run: $(PROGRAM)
 test:
 	tests/run-all
 
+test-floats: $(OUT)/compare_floats
+	$(OUT)/compare_floats
+
 hosts: $(HOSTS:%=$(OUT)/%) $(TOOLS:%=$(OUT)/%)
 	for host in $(HOSTS); do $(OUT)/$$host || exit 1; done
 
@@ -58,13 +62,15 @@ load: $(OUT)/run_load
 	@for code in $(CODES); do $(OUT)/run_load code=$$code $(SETTINGS) || exit 1; echo; done
 	@$(OUT)/run_load code=conv256 list=8 $(SETTINGS)
 
-bench: $(OUT)/bench_codec $(OUT)/bench_decoder $(OUT)/bench_records
+bench: $(OUT)/bench_codec $(OUT)/bench_decoder $(OUT)/bench_records $(OUT)/bench_samples
 	$(OUT)/bench_codec
 	bench/instructions $(OUT)/bench_codec
 	$(OUT)/bench_decoder
 	bench/instructions_decoder $(OUT)/bench_decoder
 	$(OUT)/bench_records
 	bench/instructions_records $(OUT)/bench_records
+	$(OUT)/bench_samples
+	bench/instructions_samples $(OUT)/bench_samples
 
 # The second encoder and extractor, the second decoder, and what draws codes.
 CODEC = tests/reference_codec.c tests/reference_transform.c
@@ -131,6 +137,23 @@ BENCH_RECORDS_HEADERS = tests/decoder_calls.h tests/codec_calls.h tests/referenc
 $(OUT)/bench_records: $(BENCH_RECORDS) $(BENCH_RECORDS_HEADERS) $(LIBRARY)
 	@mkdir -p $(OUT)
 	$(CC) $(CFLAGS) -Iinclude -Itests -o $@ $(BENCH_RECORDS) $(LIBRARY)
+
+BENCH_SAMPLES = bench/bench_samples.c bench/plain_quantise.c tests/draw.c
+
+# Here too the plain C loop is compiled for speed: with -fno-math-errno its lrintf is one instruction, and without it a
+# call. -lm is for a compiler that calls it all the same.
+$(OUT)/bench_samples: $(BENCH_SAMPLES) bench/plain_quantise.h include/caldurrex.h tests/draw.h $(LIBRARY)
+	@mkdir -p $(OUT)
+	$(CC) $(CFLAGS) -O3 -fno-math-errno -Iinclude -Itests -o $@ $(BENCH_SAMPLES) $(LIBRARY) -lm
+
+FLOATS = tests/compare_floats.c tests/float_check.c tests/float_sweep.c tests/float_modes.c tests/reference_quantise.c \
+	tests/lent.c tests/draw.c
+FLOATS_HEADERS = tests/float_check.h tests/float_sweep.h tests/float_modes.h tests/reference_quantise.h tests/lent.h \
+	tests/draw.h include/caldurrex.h
+
+$(OUT)/compare_floats: $(FLOATS) $(FLOATS_HEADERS) $(LIBRARY)
+	@mkdir -p $(OUT)
+	$(CC) $(CFLAGS) -pthread -Iinclude -Itests -o $@ $(FLOATS) $(LIBRARY) -lm
 
 $(OUT)/make_records: $(RECORDS) $(RECORDS_HEADERS)
 	@mkdir -p $(OUT)

@@ -1,6 +1,7 @@
 /*
  * Caldurrex: encoder, extractor and list decoder for convolutional polar codes and for
- * plain ones, by Arikan's transform, a reader and a writer of job records, and a test load.
+ * plain ones, by Arikan's transform, a reader and a writer of job records, a test load, and
+ * a quantiser of a demodulator's complex samples.
  *
  * A code has n = 2^m positions, m from 2 to 10, and a frozen map of ceil(n/8)
  * bytes: bit i mod 8 of byte i div 8, counted from the low end, is 1 where
@@ -49,7 +50,7 @@ enum caldurrex_refusal {
     CALDURREX_BAD_MAP_BIT = 3,        /* map bit set past n */
     CALDURREX_BAD_LIST_SIZE = 4,      /* list size outside 1..32 */
     CALDURREX_BAD_STOP = 5,           /* stop position above n */
-    CALDURREX_BAD_INPUT_LENGTH = 6,   /* payload not k long; word or soft values not n long */
+    CALDURREX_BAD_INPUT_LENGTH = 6,   /* payload not k long; word or soft values not n long; samples not 4n bytes */
     CALDURREX_BAD_SOFT_VALUE = 7,     /* soft value outside -2048..2047 */
     CALDURREX_SHORT_NUMBERS = 8,      /* number tables too short */
     CALDURREX_SHORT_BYTES = 9,        /* byte tables too short */
@@ -376,6 +377,40 @@ struct caldurrex_load caldurrex_test_load(uint32_t state, uint32_t m, uint8_t ar
                                           uint32_t frame,
                                           uint8_t *record, size_t record_len,
                                           uint8_t *payload, size_t payload_len);
+
+/*
+ * Makes soft values of the complex samples that a QPSK demodulator gives.
+ *
+ * A sample is a pair of 32-bit floats (IEEE 754), the real part first: eight bytes, each
+ * float with its low byte first. A block of n positions has n/2 samples. The real part of
+ * sample j serves position 2j, the imaginary part position 2j + 1. So on a host that keeps
+ * its numbers low byte first an array of n floats, real and imaginary parts in turn, is
+ * passed as it lies in memory, by a pointer to its bytes. They need not be aligned.
+ *
+ * A part that is a NaN, whatever its sign and digits, is a gap and becomes 0. Every other
+ * one is a reading x and becomes the whole number nearest to 64*x, halves to the even one,
+ * held within -2047 and 2047; an infinity goes to the end of its sign. So 1/128 gives 0,
+ * 3/128 gives 2 and -40 gives -2047. As with every soft value, a positive one favours bit 0.
+ * The values do not depend on how the host has floats rounded, or subnormal ones flushed to 0;
+ * but it must not have made float operations trap, which they do not unless it asks for it.
+ *
+ *   samples  4*n bytes
+ *   soft     at least n numbers of 16 bits; the first n become the soft values, and all
+ *            behind them up to soft_len becomes 0
+ *
+ * The calls that take soft values take them at their exact number, n. None of these is out
+ * of their range, whatever the samples are.
+ *
+ * Returns 0, or the first of these that applies, in this order:
+ *
+ *   1   CALDURREX_BAD_M             m outside 2..10
+ *   6   CALDURREX_BAD_INPUT_LENGTH  samples_len is not 4*n
+ *   10  CALDURREX_SHORT_OUTPUT      soft_len is below n
+ *
+ * A refused call writes nowhere.
+ */
+uint32_t caldurrex_quantise(uint32_t m, const uint8_t *samples, size_t samples_len,
+                            int16_t *soft, size_t soft_len);
 
 #ifdef __cplusplus
 }

@@ -12,6 +12,7 @@ ghost use Rattle.spec.specs.Code.{code};
 ghost use Rattle.spec.specs.Outcome.{written, encodeOutcome, extractOutcome, lent, decodeOutcome, readOutcome};
 ghost use Rattle.spec.specs.JobWriter.{fieldsOf, writeOutcome};
 ghost use Rattle.spec.specs.TestLoad.{loadOutcome};
+ghost use Rattle.spec.specs.Samples.{quantised, quantiseOutcome};
 ghost use Rattle.job.specs.Answer.{hostReading, forHost};
 ghost use Rattle.job_writer.specs.Answer.{hostWriting, lengthForHost};
 ghost use Rattle.test_load.specs.Answer.{hostLoading, loadForHost};
@@ -131,4 +132,11 @@ pub extern "C" fn caldurrex_test_load(
         (now (payload .entry))) ⌝ }
 {
     test_load::test_load_for_host(state, m, arikan != 0, map, pairs, frame, bytes, payload)
+}
+
+#[no_mangle]
+pub extern "C" fn caldurrex_quantise(m: u32, samples: &[u8], soft: &mut [i16]) -> u32
+    ensures { λ r. ⌜ quantised r (now (soft .exit)) ≡ quantiseOutcome m (now (samples .entry)) (now (soft .entry)) ⌝ }
+{
+    quantise::quantise(m, samples, soft)
 }

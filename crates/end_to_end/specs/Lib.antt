@@ -1,3 +1,4 @@
 pub mod EndToEnd
 pub mod EndToEndExamples
 pub mod TestLoad
+pub mod SampledBlock

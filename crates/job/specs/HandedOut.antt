@@ -1,23 +1,21 @@
 -- What the reader hands out for a record that it reads: soft values within ±2,047, and a block that the decoder accepts.
 use mathlib.Core.Path.{_≡_, refl, sym, subst, _∙_}
-use mathlib.Core.Bool.{false}
-use mathlib.Core.List.{List, [], _∷_, _++_}
-use Prim.Native.Nat.{ℕ, zero, suc, _-_, _*_, _^_, _≤_}
-use native.Mathlib.Omega.{arith}
+use mathlib.Core.List.{List, _++_}
+use Prim.Native.Nat.{ℕ, zero, suc, _-_, _*_, _^_}
 use lib.ListN.{length, take, replicate}
 use lib.Seq.{take-at}
-use lib.IntN.{ℤ, pos, natAbs}
+use lib.IntN.{ℤ, pos}
 use Rattle.spec.specs.Code.{code, mapBytes}
 use Rattle.spec.specs.Score.{taken}
-use Rattle.spec.specs.Faults.{first, settled, some}
-use Rattle.spec.specs.Refusals.{Room, outOfRange, codeFaults, runFaults, tableFaults, decodeFaults}
+use Rattle.spec.specs.Faults.{first, settled}
+use Rattle.spec.specs.Refusals.{Room, codeFaults, runFaults, tableFaults, decodeFaults}
 use Rattle.spec.specs.Record.{exponent, isArikan, positions, listSize, stopPosition, pairCount, recordMap, recordPairs, recordCode, softAt, recordSoft, shapeFaults, fieldFaults}
 use Rattle.spec.specs.Outcome.{padded, Job, job, refusedJob, Reading, reading, readRefusal, readServed, readOutcome, decodeRefusal}
-use Rattle.laws.specs.FirstFault.{First, none, later, of-first, first-is, is-first, end, next, found-after, same, not-either}
+use Rattle.laws.specs.FirstFault.{First, none, later, of-first, first-is, is-first, end, next, found-after, same}
 use Rattle.laws.specs.Accepted.{code-numbers}
-use Rattle.laws.specs.ListCost as each
-use Rattle.laws.specs.ListCost.{All, more}
-use Rattle.laws.specs.Taken.{saturated-small, taken-range}
+use Rattle.laws.specs.ListCost.{All}
+use Rattle.laws.specs.Taken.{taken-range}
+use Rattle.laws.specs.SmallSoft.{Small, taken-small, small-padded}
 use Rattle.job_fields.specs.Laid.{Shaped, length-map, length-pairs}
 use Rattle.job.specs.SoftValues.{length-soft}
 use Rattle.job.specs.Calls.{accepted-record, read-served}
@@ -63,15 +61,6 @@ module _ (s : List ℕ) (maps softs pairs : ℕ) (e : 0 ≡ readRefusal s maps s
       (found-after (code-numbers (recordCode s)) (block-accepted .0)
       (found-after (next (next (next (next end)))) (block-accepted .1) (first-is (tableFaults (positions s) (listSize s) r))))
 
--- within ±2,047, where none is out of range, with zeros behind
-small-taken : (ys : List ℤ) (k : ℕ) → some outOfRange ys ≡ false → All (λ (y : ℤ). natAbs y ≤ 2047) (taken ys ++ replicate k (pos 0))
-unfolding some
-small-taken [] zero e = each.none
-small-taken [] (suc k) e = more {x = pos 0} (omega arith) (small-taken [] k e)
-small-taken (y ∷ ys) k e =
-    let r = not-either (outOfRange y) (some outOfRange ys) e in
-    more (saturated-small y (r .0)) (small-taken ys k (r .1))
-
 -- an answer with fields: the decoder, given these and the fronts of the three slices, the map, four bytes a pair and n soft values,
 -- refuses for the tables and outputs alone that are lent to it
 abbrev pub OnlyByRoom : Job → List ℕ → List ℤ → List ℕ → Room → Type 0
@@ -82,11 +71,11 @@ OnlyByRoom (refusedJob k) map soft pairs r = Unit {0}
 module _ (s map : List ℕ) (soft : List ℤ) (pairs : List ℕ) where
   -- Every soft value in the slice lies within ±2,047, once a record is read.
   pub handed-out-in-range : 0 ≡ readRefusal s (length map) (length soft) (length pairs)
-      → All (λ (y : ℤ). natAbs y ≤ 2047) (readOutcome s map soft pairs .soft)
+      → All Small (readOutcome s map soft pairs .soft)
   unfolding readServed
   handed-out-in-range e =
-      subst (λ (o : Reading). All (λ (y : ℤ). natAbs y ≤ 2047) (o .soft)) (read-served s map soft pairs e)
-      (small-taken (recordSoft s) (length soft - length (taken (recordSoft s))) (accepted-record s (length map) (length soft) (length pairs) e .range))
+      subst (λ (o : Reading). All Small (o .soft)) (read-served s map soft pairs e)
+      (small-padded (length soft - length (taken (recordSoft s))) (taken-small (recordSoft s) (accepted-record s (length map) (length soft) (length pairs) e .range)))
 
   -- What the reader hands out is accepted by every decoder call that is lent enough.
   pub handed-out-accepted : (r : Room) → let o : Reading = readOutcome s map soft pairs in OnlyByRoom (o .answer) (o .map) (o .soft) (o .pairs) r

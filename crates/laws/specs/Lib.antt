@@ -20,6 +20,7 @@ pub mod ArikanInverse
 pub mod CodeTransform
 pub mod Soft
 pub mod Taken
+pub mod SmallSoft
 pub mod FirstFault
 pub mod MapBits
 pub mod FrozenMap
@@ -33,5 +34,7 @@ pub mod WrittenForm
 pub mod Draws
 pub mod Noise
 pub mod LoadCall
+pub mod SoftPairs
+pub mod SampleCall
 pub mod FullScale
 pub mod ScoreOfChildren

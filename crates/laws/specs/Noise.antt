@@ -1,11 +1,10 @@
 -- The soft values of a test load: 0 to 40 where the code bit is 0, and −40 to 0 where it is 1. A fact of one is a test at each of the 41
 -- remainders.
-use mathlib.Core.Path.{_≡_, refl, ap, ap₂, subst}
-use mathlib.Core.Bool.{Bool, true, false, cond, _||_}
+use mathlib.Core.Path.{_≡_, subst}
+use mathlib.Core.Bool.{Bool, true, false, cond}
 use mathlib.Core.List.{List, [], _∷_}
 use Prim.Native.Nat.{ℕ, zero, suc, _%_, _≤_, _<_}
 use native.Mathlib.Omega.{arith}
-use borrow.Author.Tests.{ne-eqb, le-ltb}
 use lib.Dec.{T, eqb, leb, leb→le, leb·suc-zero}
 use lib.ListN.{length, replicate}
 use lib.IntN.{ℤ, pos, negsuc, natAbs, _+ℤ_, _-ℤ_}
@@ -13,11 +12,12 @@ use lib.Signed.{leZ}
 use Rattle.spec.specs.Bits.{Bits, nil, cons}
 use Rattle.spec.specs.Faults.{some}
 use Rattle.spec.specs.Refusals.{outOfRange}
-use Rattle.spec.specs.Score.{saturated, taken}
+use Rattle.spec.specs.Score.{taken}
 use Rattle.spec.specs.TestLoad.{noisy, noisyWord}
 use Rattle.laws.specs.EveryEntry.{at}
 use Rattle.laws.specs.Agreement.{for-0, for-1, Allows, neutral, favoured, Each, none, more}
 use Rattle.laws.specs.ListCost as lists
+use Rattle.laws.specs.SmallSoft.{Small, small-range, small-taken}
 
 -- the value of a remainder, for bit 0 (b) or bit 1
 abbrev noisyBy : Bool → ℕ → ℤ
@@ -31,29 +31,19 @@ small-at false = at (λ r x. leb (natAbs (noisyBy false r)) 40) (replicate 41 0)
 noisy-small : (bit x : ℕ) → natAbs (noisy bit x) ≤ 40
 noisy-small bit x = leb→le (natAbs (noisy bit x)) 40 (small-at (eqb bit 0) (x % 41) (omega arith))
 
-small-range : (y : ℤ) → natAbs y ≤ 40 → outOfRange y ≡ false
-small-range (pos n) h = le-ltb 2047 n (omega arith)
-small-range (negsuc n) h = ap (λ (b : Bool). b || false) (le-ltb 2047 n (omega arith))
-
-small-taken : (y : ℤ) → natAbs y ≤ 40 → saturated y ≡ y
-small-taken (pos n) h = refl
-small-taken (negsuc n) h = rw (ne-eqb n 2047 (λ e. omega arith))
-
 pub word-small : (w xs : List ℕ) → lists.All (λ (y : ℤ). natAbs y ≤ 40) (noisyWord w xs)
 word-small [] xs = lists.none
 word-small (b ∷ w) [] = lists.none
 word-small (b ∷ w) (x ∷ xs) = lists.more (noisy-small b x) (word-small w xs)
 
+within : (w xs : List ℕ) → lists.All Small (noisyWord w xs)
+within w xs = lists.all-map (λ y h. omega arith) (word-small w xs)
+
 pub word-range : (w xs : List ℕ) → some outOfRange (noisyWord w xs) ≡ false
-unfolding some
-word-range [] xs = refl
-word-range (b ∷ w) [] = refl
-word-range (b ∷ w) (x ∷ xs) = ap₂ _||_ (small-range (noisy b x) (noisy-small b x)) (word-range w xs)
+word-range w xs = small-range (within w xs)
 
 pub word-taken : (w xs : List ℕ) → taken (noisyWord w xs) ≡ noisyWord w xs
-word-taken [] xs = refl
-word-taken (b ∷ w) [] = refl
-word-taken (b ∷ w) (x ∷ xs) = ap₂ _∷_ (small-taken (noisy b x) (noisy-small b x)) (word-taken w xs)
+word-taken w xs = small-taken (within w xs)
 
 -- ---- each agrees with its code bit, or is 0
 not-below : (y : ℤ) → T (leZ (pos 0) y) → Allows y 0

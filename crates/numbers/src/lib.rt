@@ -1,6 +1,6 @@
 // Numbers of one, two and four bytes, low byte first: read from a slice, and put into one.
 ghost use mathlib.Core.Path.{_≡_};
-ghost use Prim.Native.Nat.{_+_, _%_, _≤_, _<_};
+ghost use Prim.Native.Nat.{_+_, _*_, _%_, _≤_, _<_};
 ghost use lib.ListN.{length};
 ghost use Rattle.spec.specs.Record.{twoAt, fourAt};
 ghost use Rattle.spec.specs.RecordOf.{lowFirst};
@@ -20,11 +20,18 @@ pub fn two(bytes: &[u8], at: usize) -> u32
     wide(bytes[at]) + 256 * wide(bytes[at + 1])
 }
 
+// The number that four bytes make. In a sum of this shape the compiler sees one load.
+fn joined(a: u8, b: u8, c: u8, d: u8) -> u32
+    ensures { λ r. ⌜ r ≡ a + 256 * b + 65536 * (c + 256 * d) ⌝ }
+{
+    wide(a) + 256 * wide(b) + 65536 * wide(c) + 16777216 * wide(d)
+}
+
 pub fn four(bytes: &[u8], at: usize) -> u32
     requires { ⌜ at + 3 < length (now bytes) ⌝ }
     ensures { λ r. ⌜ r ≡ fourAt (now (bytes .entry)) at ⌝ }
 {
-    two(bytes, at) + 65536 * two(bytes, at + 2)
+    joined(bytes[at], bytes[at + 1], bytes[at + 2], bytes[at + 3])
 }
 
 pub fn low_byte(x: u32) -> u8

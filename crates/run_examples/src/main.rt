@@ -7,6 +7,7 @@ mod decoding;
 mod lines;
 mod lists;
 mod loading;
+mod sampling;
 mod say;
 mod writing;
 
@@ -15,9 +16,10 @@ use coding::code_line;
 use lines::byte_at;
 use lines::find;
 use lines::word_end;
+use sampling::sample_line;
 use say::say;
 
-// The second letter tells the names encode, extract, decode, write and load apart.
+// The second letter tells the names encode, extract, quantise, decode, write and load apart.
 fn run_call(call: &[u8]) {
     let letter = byte_at(call, 3);
     let at = word_end(call, 1);
@@ -25,6 +27,8 @@ fn run_call(call: &[u8]) {
         code_line(false, call, at);
     } else if letter == b'x' {
         code_line(true, call, at);
+    } else if letter == b'u' {
+        sample_line(call, at);
     } else if letter != 0 {
         block_line(letter, call, at);
     }

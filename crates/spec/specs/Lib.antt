@@ -13,6 +13,10 @@ pub mod JobWriter
 pub mod WriterExamples
 pub mod TestLoad
 pub mod LoadExamples
+pub mod Samples
+pub mod SampleExamples
+pub mod NearestIsNearest
+pub mod SamplesAreFloats
 pub mod SignedOrder
 pub mod ScoreIsLargest
 pub mod OrderIsTotal

@@ -14,6 +14,9 @@ code-line-requires c κs = tt
 code-line-requires-2 : tie.Need-code-line-requires-2
 code-line-requires-2 c κs = tt
 
+sample-line-requires : tie.Need-sample-line-requires
+sample-line-requires c κs = tt
+
 block-line-requires : tie.Need-block-line-requires
 block-line-requires c κs = tt
 
@@ -29,6 +32,9 @@ returns-3 c = tt
 returns-4 : tie.Need-returns-4
 returns-4 c = tt
 
+returns-5 : tie.Need-returns-5
+returns-5 c = tt
+
 pub run-call-spec : {M : Type 1} → statement M
 run-call-spec =
     tie.close
@@ -37,8 +43,10 @@ run-call-spec =
     word-end-requires
     code-line-requires
     code-line-requires-2
+    sample-line-requires
     block-line-requires
     returns
     returns-2
     returns-3
-    returns-4)
+    returns-4
+    returns-5)

@@ -1,0 +1,40 @@
+-- `readings::steps::whole` meets its contract: held, made a whole number of 2^-24, and rounded. Assumes nothing.
+use mathlib.Core.Path.{_≡_, sym, ap, _∙_}
+use Prim.Native.Nat.{ℕ, _*_, _^_, _≤_, min}
+use native.Mathlib.Nat.{mul-assoc}
+use native.Mathlib.Omega.{arith}
+use borrow.Author.Needs.{needs}
+use lib.Pow.{pow-pos}
+use Rattle.spec.specs.Samples.{nearestTo, unitsOf}
+use Rattle.readings.specs.Rounding.{nearest-same}
+use Rattle.readings.specs.Product.{heldWhole}
+use Rattle.readings.proofs.steps.whole.Statement.{statement}
+use Rattle.readings.proofs.steps.whole.Tie as tie
+
+-- k of 2^-24 are as much as the units of b, and what is not above 2,047 is held as it is
+rounded-as : (b k r : ℕ) → k * 2 ^ 125 ≡ unitsOf b → r ≡ nearestTo k (2 ^ 24) → r ≤ 2047 → r ≡ heldWhole b
+rounded-as b k r e n h =
+    free r h ∙ ap (min 2047) (n ∙ nearest-same k (2 ^ 24) (unitsOf b) (2 ^ 149) (pow-pos 24) (pow-pos 149)
+    (sym (mul-assoc k (2 ^ 125) (2 ^ 24)) ∙ ap (λ (z : ℕ). z * 2 ^ 24) e))
+  where
+    free : (n : ℕ) → n ≤ 2047 → n ≡ min 2047 n
+    free n h = omega arith
+
+held-requires : tie.Need-held-requires
+held-requires c κs = search needs
+
+in-fine-steps-requires : tie.Need-in-fine-steps-requires
+in-fine-steps-requires c κs = search needs
+
+nearest-requires : tie.Need-nearest-requires
+nearest-requires c κs = search needs
+
+returns : tie.Need-returns
+returns c =
+    let n = c .nearest in
+    let f = c .before .in-fine-steps in
+    let h = c .before .before .held in
+    (rounded-as (h .result) (f .result) (n .result) (f .ensures .0) (n .ensures .0) (n .ensures .1) ∙ h .ensures .0, n .ensures .1)
+
+pub whole-spec : {M : Type 1} → statement M
+whole-spec = tie.close (tie.spec held-requires in-fine-steps-requires nearest-requires returns)
