@@ -1,12 +1,11 @@
 -- A magnitude from 1/2 to 2,047 is a whole number of 2^-24. A float of 64 bits holds its sum with 2^28 exactly, and of the bits of that
 -- sum the lowest 52 are this number.
 use mathlib.Core.Path.{_≡_, refl, sym, ap, ap₂, subst, _∙_}
-use mathlib.Core.Bool.{Bool, true, false, not, true≢false}
+use mathlib.Core.Bool.{true, false, not, true≢false}
 use Prim.Native.Nat.{ℕ, zero, suc, _+_, _-_, _*_, _/_, _%_, _^_, _≤_, _<_}
-use native.Mathlib.Nat.{zero-add, mul-one, mul-assoc, mul-right-comm, add-mul, mul-pos, mul-div-cancel, eq-of-mul-eq-mul-right, le-antisymm, lt-of-not-le, not-le-of-lt, lt-of-lt-of-le, le-trans, mul-le-mul, le-of-eq}
+use native.Mathlib.Nat.{zero-add, mul-one, mul-assoc, mul-right-comm, add-mul, mul-pos, mul-div-cancel, eq-of-mul-eq-mul-right, le-antisymm, lt-of-not-le, not-le-of-lt, lt-of-lt-of-le, mul-le-mul, mul-lt-mul-of-pos-right, le-of-mul-le-mul-right, le-of-eq}
 use native.Mathlib.Omega.{arith}
-use borrow.Author.Tests.{leb-true, leb-false, lt-leb}
-use lib.Dec.{T, leb, lit≤}
+use lib.Dec.{T, lit≤}
 use lib.IntN.{ℤ, pos}
 use lib.Pow.{pow-add, pow-pos, pow-mono, shl-lt, shl-shr}
 use lib.Ieee.{Float, nan, inf, fin, binary32, binary64, low, up, down, size, round, sum, add, isNan, ofBits, toBits}
@@ -14,8 +13,8 @@ use lib.Ieee.Digits.{size-lt, size-le}
 use lib.Ieee.Fits.{down-pos}
 use lib.Ieee.Exact.{HasValue, round-exact}
 use lib.Ieee.Scale.{round-same}
-use Rattle.spec.specs.Samples.{negative, exponentOf, digitsOf, unitsBy, unitsOf}
-use Rattle.spec.specs.SamplesAreFloats.{number-value}
+use Rattle.spec.specs.Samples.{exponentOf, digitsOf, unitsBy}
+use Rattle.readings.specs.Held.{units, Within}
 
 -- 268435456.0, which is 2^28
 abbrev pub shift : Float
@@ -87,52 +86,46 @@ sum-value x k v h =
     (round-exact binary64 false (k + 2 ^ 52) (2 ^ 24) (k + 2 ^ 52) 1050 (pow-pos 24) (omega arith)
     (lt-of-lt-of-le (shl-lt 53 1050 (omega arith)) (lit≤ tt)) (sym (mul-assoc (k + 2 ^ 52) (2 ^ 1050) (2 ^ 24))))
 
--- ---- for the bits b of such a magnitude
-module _ (b : ℕ) (l : 1056964608 ≤ b) (h : b ≤ 1157619712) where
-  abbrev pub fine : ℕ
-  fine = fineBy (exponentOf b) (digitsOf b)
+-- ---- for such a magnitude
+-- from 1/2 on the exponent is 126 at least
+exponent-at-least : (x t : ℕ) → t < 2 ^ 23 → 2 ^ 148 ≤ unitsBy x t → 126 ≤ x
+exponent-at-least x t k h = lt-of-not-le (λ (g : x ≤ 125). not-le-of-lt (less x g) h)
+  where
+    less : (x : ℕ) → x ≤ 125 → unitsBy x t < 2 ^ 148
+    less zero g = lt-of-lt-of-le k (lit≤ tt)
+    less (suc y) g = lt-of-lt-of-le (mul-lt-mul-of-pos-right {n = 2 ^ 24} (omega arith) (pow-pos y)) (mul-le-mul {n₁ = 2 ^ 24} (le-of-eq refl) (pow-mono {i = y} {j = 124} (omega arith)))
 
-  pub fine-is : fine * 2 ^ 125 ≡ unitsOf b
-  fine-is = fine-units (exponentOf b) (digitsOf b) (omega arith)
+module _ (x : Float) (w : Within x) where
+  abbrev pub fine : ℕ
+  fine = fineBy (exponentOf (toBits binary32 x)) (digitsOf (toBits binary32 x))
+
+  pub fine-is : fine * 2 ^ 125 ≡ units x
+  fine-is =
+      let b : ℕ = toBits binary32 x in
+      fine-units (exponentOf b) (digitsOf b) (exponent-at-least (exponentOf b) (digitsOf b) (omega arith) (w .1))
 
   -- at most 2,047 · 2^24
   pub fine-small : fine ≤ 34342961152
-  fine-small = by (exponentOf b) (digitsOf b) (omega arith) (omega arith) (omega arith)
-    where
-      by : (x t : ℕ) → 126 ≤ x → x * 8388608 + t ≤ 1157619712 → t < 8388608 → fineBy x t ≤ 34342961152
-      by x t f g k = go (leb 137 x) refl
-        where
-          go : (c : Bool) → leb 137 x ≡ c → fineBy x t ≤ 34342961152
-          go true e =
-              let p = leb-true 137 x e in
-              let is : x ≡ 137 = omega arith in
-              rw is (omega arith)
-          go false e =
-              let p = leb-false 137 x e in
-              le-trans (mul-le-mul {n₂ = 16777215} {m₂ = 2 ^ 10} (omega arith) (pow-mono {i = x - 126} {j = 10} (omega arith))) (lit≤ tt)
+  fine-small = le-of-mul-le-mul-right {k = 2 ^ 125} (subst (λ (z : ℕ). z ≤ 34342961152 * 2 ^ 125) (sym fine-is) (w .2)) (pow-pos 125)
 
-  positive : negative b ≡ false
-  positive = lt-leb (2 ^ 31) b (omega arith)
-
-  -- the float of the bits
-  pub fine-value : HasValue (ofBits binary32 b) false fine (2 ^ 24)
-  fine-value = go (ofBits binary32 b) (number-value b (omega arith))
+  fine-value : HasValue x false fine (2 ^ 24)
+  fine-value = go x (w .0)
     where
-      go : (x : Float) → HasValue x (negative b) (unitsOf b) (2 ^ 149) → HasValue x false fine (2 ^ 24)
+      go : (y : Float) → HasValue y false (units x) (2 ^ 149) → HasValue y false fine (2 ^ 24)
       go nan v = v
       go (inf s) v = v
       go (fin s m e) v = (
-        v .0 ∙ positive,
+        v .0,
         eq-of-mul-eq-mul-right (2 ^ 125) (pow-pos 125) (m * up e * 2 ^ 24) (fine * down e)
             (mul-assoc (m * up e) (2 ^ 24) (2 ^ 125) ∙ v .1 ∙ ap (λ (z : ℕ). z * down e) (sym fine-is) ∙ mul-right-comm fine (2 ^ 125) (down e)),
       )
 
   -- its sum with 2^28, and the lowest 52 bits of that
   abbrev pub moved : Float
-  moved = add binary64 (ofBits binary32 b) shift
+  moved = add binary64 x shift
 
   moved-value : HasValue moved false (fine + 2 ^ 52) (2 ^ 24)
-  moved-value = sum-value (ofBits binary32 b) fine fine-value (omega (arith, fine-small))
+  moved-value = sum-value x fine fine-value (omega (arith, fine-small))
 
   pub moved-bits : toBits binary64 moved % 4503599627370496 ≡ fine
   moved-bits =
@@ -143,14 +136,14 @@ module _ (b : ℕ) (l : 1056964608 ≤ b) (h : b ≤ 1157619712) where
       low-bits n k e h = omega arith
 
   -- neither is a NaN
-  reads : (x : Float) (a c : ℕ) → HasValue x false a c → T (not (isNan x))
+  reads : (y : Float) (a c : ℕ) → HasValue y false a c → T (not (isNan y))
   unfolding isNan
   reads nan a c v = absurd v
   reads (inf s) a c v = absurd v
   reads (fin s m e) a c v = tt
 
-  pub fine-reads : T (not (isNan (ofBits binary32 b)))
-  fine-reads = reads (ofBits binary32 b) fine (2 ^ 24) fine-value
+  pub fine-reads : T (not (isNan x))
+  fine-reads = reads x fine (2 ^ 24) fine-value
 
   pub moved-reads : T (not (isNan moved))
   moved-reads = reads moved (fine + 2 ^ 52) (2 ^ 24) moved-value

@@ -7,29 +7,36 @@ ghost use lib.Dec.{T};
 ghost use lib.Ieee.{binary32, isNan, toBits};
 ghost use Rattle.spec.specs.Samples.{nearestTo, unitsOf, softOf};
 ghost use Rattle.readings.specs.Product.{heldWhole};
+ghost use Rattle.readings.specs.Held.{Magnitude, AtMost, Within};
 
-// The bits of a magnitude from 1/2 to 2,047 that is rounded and held as the one given: 2,047 for what is more, and 1/2 for what is
-// less, since both are nearest to 0.
-fn held(bits: u32) -> u32
-    requires { ⌜ bits < 2147483648 ⌝ }
-    ensures { λ r. ⌜ (heldWhole r ≡ heldWhole bits) × (1056964608 ≤ r) × (r ≤ 1157619712) ⌝ }
+// What is more than 2,047 is held there.
+fn at_most(x: f32) -> f32
+    requires { ⌜ Magnitude x ⌝ }
+    ensures { λ r. ⌜ (heldWhole (toBits binary32 r) ≡ heldWhole (toBits binary32 x)) × (AtMost r) ⌝ }
 {
-    if bits > 1157619712 {
-        return 1157619712;
+    if x > 2047.0 {
+        return 2047.0;
     }
-    if bits < 1056964608 {
-        return 1056964608;
+    x
+}
+
+// 1/2 for what is less: both are nearest to 0.
+fn at_least(x: f32) -> f32
+    requires { ⌜ AtMost x ⌝ }
+    ensures { λ r. ⌜ (heldWhole (toBits binary32 r) ≡ heldWhole (toBits binary32 x)) × (Within r) ⌝ }
+{
+    if x < 0.5 {
+        return 0.5;
     }
-    bits
+    x
 }
 
 // 2^24 times such a magnitude, which is a whole number. Behind the leading 1 of its sum with 2^28, which a float of 64 bits holds
 // exactly, stands that number.
-fn in_fine_steps(bits: u32) -> u64
-    requires { ⌜ (1056964608 ≤ bits) × (bits ≤ 1157619712) ⌝ }
-    ensures { λ r. ⌜ (r * 2 ^ 125 ≡ unitsOf bits) × (r ≤ 34342961152) ⌝ }
+fn in_fine_steps(x: f32) -> u64
+    requires { ⌜ Within x ⌝ }
+    ensures { λ r. ⌜ (r * 2 ^ 125 ≡ unitsOf (toBits binary32 x)) × (r ≤ 34342961152) ⌝ }
 {
-    let x = f32::from_bits(bits);
     f64::to_bits(x as f64 + 268435456.0) % 4503599627370496
 }
 
@@ -42,21 +49,22 @@ fn nearest(a: u64) -> u32
     ((a + 8388607 + a / 16777216 % 2) / 16777216) as u32
 }
 
-// The whole number nearest to a float's magnitude, at most 2,047, from the 31 bits under its sign.
-fn whole(bits: u32) -> u32
-    requires { ⌜ bits < 2147483648 ⌝ }
-    ensures { λ r. ⌜ (r ≡ heldWhole bits) × (r ≤ 2047) ⌝ }
+// The whole number nearest to a magnitude, at most 2,047.
+fn whole(x: f32) -> u32
+    requires { ⌜ Magnitude x ⌝ }
+    ensures { λ r. ⌜ (r ≡ heldWhole (toBits binary32 x)) × (r ≤ 2047) ⌝ }
 {
-    nearest(in_fine_steps(held(bits)))
+    let y = at_least(at_most(x));
+    nearest(in_fine_steps(y))
 }
 
-// 64 times a reading, rounded and held.
+// 64 times a reading, rounded and held: the magnitude is that of the bits under the sign.
 pub(crate) fn in_steps(x: f32) -> i16
     requires { ⌜ T (not (isNan x)) ⌝ }
     ensures { λ r. ⌜ r ≡ softOf (toBits binary32 x) ⌝ }
 {
     let bits = f32::to_bits(x * 64.0);
-    let w = whole(bits % 2147483648);
+    let w = whole(f32::from_bits(bits % 2147483648));
     if bits < 2147483648 {
         return w as i16;
     }

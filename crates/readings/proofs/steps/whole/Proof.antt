@@ -3,8 +3,8 @@ use mathlib.Core.Path.{_≡_, sym, ap, _∙_}
 use Prim.Native.Nat.{ℕ, _*_, _^_, _≤_, min}
 use native.Mathlib.Nat.{mul-assoc}
 use native.Mathlib.Omega.{arith}
-use borrow.Author.Needs.{needs}
 use lib.Pow.{pow-pos}
+use lib.Ieee.{binary32, toBits}
 use Rattle.spec.specs.Samples.{nearestTo, unitsOf}
 use Rattle.readings.specs.Rounding.{nearest-same}
 use Rattle.readings.specs.Product.{heldWhole}
@@ -20,21 +20,27 @@ rounded-as b k r e n h =
     free : (n : ℕ) → n ≤ 2047 → n ≡ min 2047 n
     free n h = omega arith
 
-held-requires : tie.Need-held-requires
-held-requires c κs = search needs
+at-most-requires : tie.Need-at-most-requires
+at-most-requires c κs = c .pre
+
+at-least-requires : tie.Need-at-least-requires
+at-least-requires c κs = c .at-most .ensures .1
 
 in-fine-steps-requires : tie.Need-in-fine-steps-requires
-in-fine-steps-requires c κs = search needs
+in-fine-steps-requires c κs = c .at-least .ensures .1
 
 nearest-requires : tie.Need-nearest-requires
-nearest-requires c κs = search needs
+nearest-requires c κs = c .in-fine-steps .ensures .1
 
 returns : tie.Need-returns
 returns c =
     let n = c .nearest in
     let f = c .before .in-fine-steps in
-    let h = c .before .before .held in
-    (rounded-as (h .result) (f .result) (n .result) (f .ensures .0) (n .ensures .0) (n .ensures .1) ∙ h .ensures .0, n .ensures .1)
+    let l = c .before .before .at-least in
+    let h = c .before .before .before .at-most in (
+      rounded-as (toBits binary32 (l .result)) (f .result) (n .result) (f .ensures .0) (n .ensures .0) (n .ensures .1) ∙ l .ensures .0 ∙ h .ensures .0,
+      n .ensures .1,
+    )
 
 pub whole-spec : {M : Type 1} → statement M
-whole-spec = tie.close (tie.spec held-requires in-fine-steps-requires nearest-requires returns)
+whole-spec = tie.close (tie.spec at-most-requires at-least-requires in-fine-steps-requires nearest-requires returns)
