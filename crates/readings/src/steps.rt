@@ -20,7 +20,7 @@ fn at_most(x: f32) -> f32
     x
 }
 
-// 1/2 for what is less: both are nearest to 0.
+// 1/2 for what is less: both go to 0.
 fn at_least(x: f32) -> f32
     requires { ⌜ AtMost x ⌝ }
     ensures { λ r. ⌜ (heldWhole (toBits binary32 r) ≡ heldWhole (toBits binary32 x)) × (Within r) ⌝ }
