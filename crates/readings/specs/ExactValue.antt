@@ -3,13 +3,12 @@
 use mathlib.Core.Path.{_≡_, refl, sym, ap, ap₂, subst, _∙_}
 use mathlib.Core.Bool.{Bool, true, false, not}
 use Prim.Native.Nat.{ℕ, suc, _-_, _*_, _^_, _≤_, _<_, min}
-use native.Mathlib.Nat.{mul-comm, mul-assoc, mul-right-comm, eq-of-mul-eq-mul-right}
+use native.Mathlib.Nat.{mul-comm, mul-assoc, eq-of-mul-eq-mul-right}
 use native.Mathlib.Omega.{arith}
 use lib.Dec.{T}
 use lib.IntN.{pos}
 use lib.Pow.{pow-pos}
-use lib.Ieee.{Float, nan, inf, fin, binary32, down, up, isNan, ofBits, toBits}
-use lib.Ieee.Fits.{down-pos}
+use lib.Ieee.{Float, nan, inf, binary32, isNan, ofBits, toBits}
 use lib.Ieee.Bits.{toBits-ofBits}
 use lib.Ieee.Exact.{HasValue}
 use Rattle.spec.specs.Samples.{negative, unitsOf, nearestTo, signedBy, softOf}
@@ -17,24 +16,13 @@ use Rattle.spec.specs.SamplesAreFloats.{number-value, number-below}
 use Rattle.readings.specs.Parts.{partOf, softPart}
 use Rattle.readings.specs.SoftOfPart.{soft-bits}
 use Rattle.readings.specs.Rounding.{nearest-same, half-at-most, more-than-half}
-use Rattle.readings.specs.Product.{value-finite, soft-number, soft-infinite}
-
--- two fractions of the same float
-cross : (x : Float) (s t : Bool) (a c u d : ℕ) → HasValue x s a c → HasValue x t u d → (s ≡ t) × (a * d ≡ u * c)
-cross nan s t a c u d v w = absurd v
-cross (inf z) s t a c u d v w = absurd v
-cross (fin z m e) s t a c u d v w = (
-  sym (v .0) ∙ w .0,
-  eq-of-mul-eq-mul-right (down e) (down-pos e) (a * d) (u * c)
-      (mul-right-comm a d (down e) ∙ ap (λ (n : ℕ). n * d) (sym (v .1)) ∙ mul-right-comm (m * up e) c d
-      ∙ ap (λ (n : ℕ). n * c) (w .1) ∙ mul-right-comm u (down e) c),
-)
+use Rattle.readings.specs.Product.{value-finite, two-fractions, soft-number, soft-infinite}
 
 -- a number a / c of the sign s
 pub soft-of-number : (b : ℕ) (s : Bool) (a c : ℕ) → 0 < c → HasValue (ofBits binary32 b) s a c → softOf b ≡ signedBy s (min 2047 (nearestTo (64 * a) c))
 soft-of-number b s a c C v =
     let l = number-below b (value-finite (ofBits binary32 b) s a c v) in
-    let k = cross (ofBits binary32 b) (negative b) s (unitsOf b) (2 ^ 149) a c (number-value b l) v in
+    let k = two-fractions (ofBits binary32 b) (negative b) s (unitsOf b) (2 ^ 149) a c (number-value b l) v in
     soft-number b l
     ∙ ap₂ (λ (z : Bool) (n : ℕ). signedBy z (min 2047 n)) (k .0)
     (nearest-same (unitsOf b) (2 ^ 143) (64 * a) c (pow-pos 143) C

@@ -34,10 +34,16 @@ value-finite nan s a c v = absurd v
 value-finite (inf t) s a c v = absurd v
 value-finite (fin t m e) s a c v = tt
 
-value-same : (x : Float) (s t : Bool) (a b c : ℕ) → HasValue x s a c → HasValue x t b c → (s ≡ t) × (a ≡ b)
-value-same nan s t a b c v w = absurd v
-value-same (inf u) s t a b c v w = absurd v
-value-same (fin u m e) s t a b c v w = (sym (v .0) ∙ w .0, eq-of-mul-eq-mul-right (down e) (down-pos e) a b (sym (v .1) ∙ w .1))
+-- two fractions that a float equals
+pub two-fractions : (x : Float) (s t : Bool) (a c u d : ℕ) → HasValue x s a c → HasValue x t u d → (s ≡ t) × (a * d ≡ u * c)
+two-fractions nan s t a c u d v w = absurd v
+two-fractions (inf z) s t a c u d v w = absurd v
+two-fractions (fin z m e) s t a c u d v w = (
+  sym (v .0) ∙ w .0,
+  eq-of-mul-eq-mul-right (down e) (down-pos e) (a * d) (u * c)
+      (mul-right-comm a d (down e) ∙ ap (λ (n : ℕ). n * d) (sym (v .1)) ∙ mul-right-comm (m * up e) c d
+      ∙ ap (λ (n : ℕ). n * c) (w .1) ∙ mul-right-comm u (down e) c),
+)
 
 -- ---- the product as a fraction that is rounded
 like : (s : Bool) → unlike s false ≡ s
@@ -145,9 +151,9 @@ module _ (b : ℕ) (x : Float) (ob : ofBits binary32 b ≡ x) (f : T (finite x))
       (round-exact binary32 (negative b) n (2 ^ 149) (w .q) (w .j) (pow-pos 149) (w .short) (subst (λ (z : ℕ). z < 2 ^ 277) (w .is) h) (ap (λ (z : ℕ). z * 2 ^ 149) (w .is))) in
       let l : exponentOf c < 255 = number-below c (subst (λ (z : Float). T (finite z)) (sym y-bits) (value-finite y (negative b) n (2 ^ 149) v)) in
       let v′ : HasValue y (negative c) (unitsOf c) (2 ^ 149) = subst (λ (z : Float). HasValue z (negative c) (unitsOf c) (2 ^ 149)) y-bits (number-value c l) in
-      let e = value-same y (negative b) (negative c) n (unitsOf c) (2 ^ 149) v v′ in
+      let e = two-fractions y (negative b) (negative c) n (2 ^ 149) (unitsOf c) (2 ^ 149) v v′ in
       ap₂ (λ (s : Bool) (k : ℕ). signedBy s (min 2047 k)) (sym (e .0))
-      (ap (λ (k : ℕ). nearestTo k (2 ^ 149)) (sym (e .1))
+      (sym (nearest-same n (2 ^ 149) (unitsOf c) (2 ^ 149) (pow-pos 149) (pow-pos 149) (e .1))
       ∙ nearest-same n (2 ^ 149) (unitsOf b) (2 ^ 143) (pow-pos 149) (pow-pos 143) (mul-assoc (unitsOf b) 64 (2 ^ 143)))
       ∙ sym (soft-number b below)
 
