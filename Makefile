@@ -2,10 +2,11 @@
 # make run    decode a record: the sample, or the file RECORD names
 # make test   prove everything and compare the library and the program with the references
 # make test-floats  all 2^32 bit patterns of a float through the quantiser, against a second rounding
-# make hosts  build the library and the tools make_record and run_load, and run the example hosts written in C
+# make hosts  build the library and the tools make_record, decode_stream and run_load, and run the example hosts
+#             written in C
 # make load   the speed of this box on test loads, and the checksums by which boxes are compared; STATE, BLOCKS,
 #             THREADS and CODES name others than the usual ones, as in make load CODES="polar64 polar256" BLOCKS=4000
-# make bench  speed and instructions a block, a record, a test load and a block of samples
+# make bench  speed and instructions a block, a job record, a test load, a result record and a block of samples
 # make stored-records  what decode_records reads and must print, made again by the second reader and decoder
 # make clean
 
@@ -25,10 +26,10 @@ PROVED = crates.txt $(shell find crates -name '*.rt' -o -name '*.antt')
 # The sample record of the rules, as bytes.
 RECORD = crates/decode_job/stdin
 
-HOSTS = encode_extract decode_block display_early read_record decode_samples decode_links
+HOSTS = encode_extract decode_block display_early read_record read_result decode_samples decode_links
 
-# Hosts that take their settings as arguments: they are built, and not run, by make hosts.
-TOOLS = make_record run_load
+# Hosts that take settings as arguments, or records from standard input: they are built, and not run, by make hosts.
+TOOLS = make_record decode_stream run_load
 
 # What make load runs; where a setting is not named, it is the tool's usual one.
 CODES = conv64 conv256 conv1024
@@ -62,13 +63,15 @@ load: $(OUT)/run_load
 	@for code in $(CODES); do $(OUT)/run_load code=$$code $(SETTINGS) || exit 1; echo; done
 	@$(OUT)/run_load code=conv256 list=8 $(SETTINGS)
 
-bench: $(OUT)/bench_codec $(OUT)/bench_decoder $(OUT)/bench_records $(OUT)/bench_samples
+bench: $(OUT)/bench_codec $(OUT)/bench_decoder $(OUT)/bench_records $(OUT)/bench_results $(OUT)/bench_samples
 	$(OUT)/bench_codec
 	bench/instructions $(OUT)/bench_codec
 	$(OUT)/bench_decoder
 	bench/instructions_decoder $(OUT)/bench_decoder
 	$(OUT)/bench_records
 	bench/instructions_records $(OUT)/bench_records
+	$(OUT)/bench_results
+	bench/instructions_results $(OUT)/bench_results
 	$(OUT)/bench_samples
 	bench/instructions_samples $(OUT)/bench_samples
 
@@ -107,7 +110,7 @@ $(LIBRARY): $(PROVED)
 	$(call prove,staticlib caldurrex)
 
 # What a host has beside its own file.
-$(OUT)/make_record: examples/settings.c examples/settings.h
+$(OUT)/make_record $(OUT)/decode_stream: examples/settings.c examples/settings.h
 $(OUT)/run_load: examples/load_round.c examples/load_threads.c examples/settings.c examples/load_round.h \
 	examples/load_threads.h examples/settings.h
 
@@ -137,6 +140,14 @@ BENCH_RECORDS_HEADERS = tests/decoder_calls.h tests/codec_calls.h tests/referenc
 $(OUT)/bench_records: $(BENCH_RECORDS) $(BENCH_RECORDS_HEADERS) $(LIBRARY)
 	@mkdir -p $(OUT)
 	$(CC) $(CFLAGS) -Iinclude -Itests -o $@ $(BENCH_RECORDS) $(LIBRARY)
+
+BENCH_RESULTS = bench/bench_results.c tests/reference_result.c tests/draw.c
+BENCH_RESULTS_HEADERS = tests/reference_result.h tests/reference_writer.h tests/reference_codec.h tests/draw.h \
+	include/caldurrex.h
+
+$(OUT)/bench_results: $(BENCH_RESULTS) $(BENCH_RESULTS_HEADERS) $(LIBRARY)
+	@mkdir -p $(OUT)
+	$(CC) $(CFLAGS) -Iinclude -Itests -o $@ $(BENCH_RESULTS) $(LIBRARY)
 
 BENCH_SAMPLES = bench/bench_samples.c bench/plain_quantise.c tests/draw.c
 

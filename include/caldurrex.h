@@ -1,7 +1,8 @@
 /*
  * Caldurrex: encoder, extractor and list decoder for convolutional polar codes and for
- * plain ones, by Arikan's transform, a reader and a writer of job records, a test load, and
- * a quantiser of a demodulator's complex samples.
+ * plain ones, by Arikan's transform, a reader and a writer of job records, a test load, a
+ * quantiser of a demodulator's complex samples, and a writer and two readers of result
+ * records: one for the customer, and one for an operator, who is told nothing of the bits.
  *
  * A code has n = 2^m positions, m from 2 to 10, and a frozen map of ceil(n/8)
  * bytes: bit i mod 8 of byte i div 8, counted from the low end, is 1 where
@@ -48,18 +49,22 @@ enum caldurrex_refusal {
     CALDURREX_BAD_M = 1,              /* m outside 2..10 */
     CALDURREX_BAD_MAP_LENGTH = 2,     /* frozen map not ceil(n/8) bytes */
     CALDURREX_BAD_MAP_BIT = 3,        /* map bit set past n */
-    CALDURREX_BAD_LIST_SIZE = 4,      /* list size outside 1..32 */
+    CALDURREX_BAD_LIST_SIZE = 4,      /* list size or row count outside 1..32 */
     CALDURREX_BAD_STOP = 5,           /* stop position above n */
-    CALDURREX_BAD_INPUT_LENGTH = 6,   /* payload not k long; word or soft values not n long; samples not 4n bytes */
+    CALDURREX_BAD_INPUT_LENGTH = 6,   /* payload not k long; word or soft values not n long; samples not 4n bytes;
+                                         inputs not n bytes a row; scores not one a row */
     CALDURREX_BAD_SOFT_VALUE = 7,     /* soft value outside -2048..2047 */
     CALDURREX_SHORT_NUMBERS = 8,      /* number tables too short */
     CALDURREX_SHORT_BYTES = 9,        /* byte tables too short */
     CALDURREX_SHORT_OUTPUT = 10,      /* an output too short */
-    CALDURREX_NOT_A_BIT = 11,         /* payload or word byte above 1 */
+    CALDURREX_NOT_A_BIT = 11,         /* payload, word or input byte above 1 */
     CALDURREX_NOT_A_CODE_WORD = 12,   /* a frozen input bit of the word breaks its rule */
     CALDURREX_BAD_RECORD_LENGTH = 13, /* record not as long as its fields need */
-    CALDURREX_BAD_FIELD_MAP = 14,     /* bits 5 to 7 of a record's first byte not 0 */
+    CALDURREX_BAD_FIELD_MAP = 14,     /* in a record's first byte a bit that names nothing is 1 */
     CALDURREX_BAD_PAIRS = 15,         /* a wrong pair, a part of a pair, or above 256 of them */
+    CALDURREX_BAD_PACKED_BIT = 21,    /* a result record's packed bit past n is 1 */
+    CALDURREX_BAD_RESULT = 22,        /* scores rise; a ceiling below the first score; a field present with the
+                                         value of its absence */
     CALDURREX_ZERO_STATE = 24         /* a test load from state 0 */
 };
 
@@ -411,6 +416,128 @@ struct caldurrex_load caldurrex_test_load(uint32_t state, uint32_t m, uint8_t ar
  */
 uint32_t caldurrex_quantise(uint32_t m, const uint8_t *samples, size_t samples_len,
                             int16_t *soft, size_t soft_len);
+
+/* No result record that is written or read is longer than this. */
+#define CALDURREX_RESULT_BYTES 4235
+
+/*
+ * Writes a result record: what a decoder call gave for a block.
+ *
+ * A record is these bytes one behind the other and nothing else. A number of several bytes
+ * has its low byte first; a negative one, v, stands as 2^32 + v.
+ *
+ *   1 byte           which of the two fields below are present: bit 0 the frame number, bit 1
+ *                    the ceiling; bits 2 to 7 are 0
+ *   1 byte           m, 2 to 10
+ *   1 byte           row count, 1 to 32
+ *   4 bytes          frame number, unsigned; only if bit 0 is 1, else it is 0
+ *   4 bytes          ceiling, signed; only if bit 1 is 1, else it is the first score
+ *   4 bytes a row    the scores, signed, rank 0 first
+ *   ceil(n/8) bytes  for each row: its n input bits, packed as a frozen map is: bit i mod 8 of
+ *     a row          byte i div 8, counted from the low end, is the bit of position i; for
+ *                    n = 4 the four high bits are 0
+ *
+ * A field never stands with the value that its absence means: the frame number is left out
+ * where it is 0, and the ceiling where it is equal to the first score. So a result has one
+ * record and no other.
+ *
+ *   rows     the row count, 1 to 32
+ *   frame    any number
+ *   ceiling  any number not below the first score
+ *   scores   one number a row, none above the one before it
+ *   inputs   n bytes a row, of value 0 or 1
+ *   record   at least as many bytes as the record has, for which CALDURREX_RESULT_BYTES is
+ *            always enough; the first become the record, and all behind it up to record_len
+ *            becomes 0
+ *
+ * What caldurrex_decode gives is always accepted: its rows and its ceiling, as many of its
+ * scores as there are rows, and as many rows of its inputs. A record has no stop position:
+ * where the block was decoded to a stop below n, the inputs are 0 from there on, and who reads
+ * the record must know that.
+ *
+ * The answer has the length of the record. Its refusal is 0, or the first of these that
+ * applies, in this order:
+ *
+ *   1   CALDURREX_BAD_M             m outside 2..10
+ *   4   CALDURREX_BAD_LIST_SIZE     rows outside 1..32
+ *   6   CALDURREX_BAD_INPUT_LENGTH  inputs_len is not n*rows, or scores_len is not rows
+ *   11  CALDURREX_NOT_A_BIT         an input byte is above 1
+ *   22  CALDURREX_BAD_RESULT        a score is above the one before it, or the ceiling is below
+ *                                   the first score
+ *   10  CALDURREX_SHORT_OUTPUT      record_len is below the length of the record
+ *
+ * A refused call writes nowhere.
+ */
+struct caldurrex_length caldurrex_write_result(uint32_t m, uint32_t rows, uint32_t frame,
+                                               int32_t ceiling,
+                                               const int32_t *scores, size_t scores_len,
+                                               const uint8_t *inputs, size_t inputs_len,
+                                               uint8_t *record, size_t record_len);
+
+/* What a result record says. refusal is 0 if it was read; else it is the number of the
+ * refusal, and the other four are 0. */
+struct caldurrex_result {
+    uint32_t refusal, m, rows, frame;
+    int32_t ceiling;
+};
+
+/*
+ * Reads a result record as the customer whose block it is: all that it says.
+ *
+ *   record  the record, as caldurrex_write_result has it
+ *   scores  at least one number a row; the first become the scores, and all behind them up to
+ *           scores_len becomes 0
+ *   inputs  at least n bytes a row; the first become the input rows, bytes of value 0 or 1,
+ *           and all behind them up to inputs_len becomes 0
+ *
+ * 32 numbers and 32768 bytes are enough for every record.
+ *
+ * The answer's refusal is 0, or the first of these that applies, in this order:
+ *
+ *   13  CALDURREX_BAD_RECORD_LENGTH  record_len is 0
+ *   14  CALDURREX_BAD_FIELD_MAP      one of bits 2 to 7 of the first byte is 1
+ *   13  CALDURREX_BAD_RECORD_LENGTH  record_len is below 3
+ *   1   CALDURREX_BAD_M              m outside 2..10
+ *   4   CALDURREX_BAD_LIST_SIZE      row count outside 1..32
+ *   13  CALDURREX_BAD_RECORD_LENGTH  record_len is not exactly what the fields need
+ *   22  CALDURREX_BAD_RESULT         a score is above the one before it, a frame number is
+ *                                    present and 0, or a ceiling is present and not above the
+ *                                    first score
+ *   10  CALDURREX_SHORT_OUTPUT       scores_len is below the row count, or inputs_len below n
+ *                                    bytes a row
+ *   21  CALDURREX_BAD_PACKED_BIT     a packed bit past n is 1, which only n = 4 leaves room for
+ *
+ * A refused call writes nowhere.
+ */
+struct caldurrex_result caldurrex_read_result(const uint8_t *record, size_t record_len,
+                                              int32_t *scores, size_t scores_len,
+                                              uint8_t *inputs, size_t inputs_len);
+
+/*
+ * Reads a result record as an operator, who is told nothing of the packed bits. For two
+ * records of equal length that differ only in packed bits, that is, behind their scores, and
+ * lent equally many scores, the answer is the same, a refusal too, and so are the scores of a
+ * record that is read.
+ *
+ *   record  the record, as caldurrex_write_result has it
+ *   scores  at least one number a row, for which 32 are always enough; the first become the
+ *           scores, and all behind them up to scores_len becomes 0
+ *
+ * The answer's refusal is 0, or the first of these that applies, in this order:
+ *
+ *   13  CALDURREX_BAD_RECORD_LENGTH  record_len is 0
+ *   14  CALDURREX_BAD_FIELD_MAP      one of bits 2 to 7 of the first byte is 1
+ *   13  CALDURREX_BAD_RECORD_LENGTH  record_len is below 3
+ *   1   CALDURREX_BAD_M              m outside 2..10
+ *   4   CALDURREX_BAD_LIST_SIZE      row count outside 1..32
+ *   13  CALDURREX_BAD_RECORD_LENGTH  record_len is not exactly what the fields need
+ *   22  CALDURREX_BAD_RESULT         as for caldurrex_read_result
+ *   10  CALDURREX_SHORT_OUTPUT       scores_len is below the row count
+ *
+ * A refused call writes nowhere.
+ */
+struct caldurrex_result caldurrex_read_result_operator(const uint8_t *record, size_t record_len,
+                                                       int32_t *scores, size_t scores_len);
 
 #ifdef __cplusplus
 }

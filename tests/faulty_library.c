@@ -1,16 +1,18 @@
 /*
  * The calls of plain_library.c with one fault, which FAULT in the environment names: for what
- * run_load must say of a box or a build that does not do what is proved.
+ * the tools must say of a box or a build that does not do what is proved.
  */
 #define caldurrex_test_load plain_test_load
 #define caldurrex_read_job plain_read_job
 #define caldurrex_decode plain_decode
 #define caldurrex_extract plain_extract
+#define caldurrex_write_result plain_write_result
 #include "plain_library.c"
 #undef caldurrex_test_load
 #undef caldurrex_read_job
 #undef caldurrex_decode
 #undef caldurrex_extract
+#undef caldurrex_write_result
 
 #include <stdlib.h>
 #include <string.h>
@@ -76,4 +78,13 @@ uint32_t caldurrex_extract(uint32_t m, uint8_t arikan, const uint8_t *map, size_
     payload[0] ^= (uint8_t)(called && fault_is("threads"));
     called = 1;
     return refusal;
+}
+
+struct caldurrex_length caldurrex_write_result(uint32_t m, uint32_t rows, uint32_t frame, int32_t ceiling,
+                                               const int32_t *scores, size_t scores_len,
+                                               const uint8_t *inputs, size_t inputs_len,
+                                               uint8_t *record, size_t record_len)
+{
+    return plain_write_result(m, rows, frame, ceiling, scores, scores_len, inputs, inputs_len, record,
+                              fault_is("result") ? 0 : record_len);
 }

@@ -1,13 +1,14 @@
 /*
- * The calls that examples/run_load.c makes, in plain C by the references and without the library.
- * Linked in the library's place they must come to the same checksum. The paper decoder is made
- * for one thread at a time.
+ * The calls that the tools run_load and decode_stream make, in plain C by the references and
+ * without the library. Linked in the library's place they must come to the same checksum. The
+ * paper decoder is made for one thread at a time.
  */
 #include "caldurrex.h"
 #include "paper_decoder.h"
 #include "reference_codec.h"
 #include "reference_job.h"
 #include "reference_load.h"
+#include "reference_result.h"
 
 struct caldurrex_load caldurrex_test_load(uint32_t state, uint32_t m, uint8_t arikan,
                                           const uint8_t *map, size_t map_len,
@@ -45,4 +46,14 @@ struct caldurrex_decoded caldurrex_decode(uint32_t m, uint8_t arikan, const uint
         paper_decode(m, arikan, map, map_len, pairs, pairs_len, list_size, stop, soft, soft_len, numbers, numbers_len,
                      bytes, bytes_len, inputs, inputs_len, words, words_len, scores, scores_len);
     return (struct caldurrex_decoded){block.refusal, block.rows, block.ceiling};
+}
+
+struct caldurrex_length caldurrex_write_result(uint32_t m, uint32_t rows, uint32_t frame, int32_t ceiling,
+                                               const int32_t *scores, size_t scores_len,
+                                               const uint8_t *inputs, size_t inputs_len,
+                                               uint8_t *record, size_t record_len)
+{
+    struct reference_length written = reference_write_result(m, rows, frame, ceiling, scores, scores_len, inputs,
+                                                             inputs_len, record, record_len);
+    return (struct caldurrex_length){written.refusal, written.length};
 }

@@ -5,7 +5,8 @@ mod fields;
 use fields::DecodedFields;
 use fields::fields_of;
 use job::JobFields;
-use job_writer::RecordLength;
+use record_writer::RecordLength;
+use result::ResultFields;
 use test_load::LoadFields;
 ghost use mathlib.Core.Path.{_≡_};
 ghost use Rattle.spec.specs.Code.{code};
@@ -13,9 +14,12 @@ ghost use Rattle.spec.specs.Outcome.{written, encodeOutcome, extractOutcome, le
 ghost use Rattle.spec.specs.JobWriter.{fieldsOf, writeOutcome};
 ghost use Rattle.spec.specs.TestLoad.{loadOutcome};
 ghost use Rattle.spec.specs.Samples.{quantised, quantiseOutcome};
+ghost use Rattle.spec.specs.ResultRecord.{operatorOutcome, customerOutcome};
+ghost use Rattle.spec.specs.ResultWriter.{resultOf, writeResultOutcome};
 ghost use Rattle.job.specs.Answer.{hostReading, forHost};
-ghost use Rattle.job_writer.specs.Answer.{hostWriting, lengthForHost};
+ghost use Rattle.record_writer.specs.Answer.{hostWriting, lengthForHost};
 ghost use Rattle.test_load.specs.Answer.{hostLoading, loadForHost};
+ghost use Rattle.result.specs.Answer.{hostOperator, hostCustomer, operatorForHost, customerForHost};
 ghost use Rattle.caldurrex.specs.Choice.{chosen};
 ghost use Rattle.caldurrex.specs.Fields.{returned, asReturned};
 
@@ -139,4 +143,39 @@ pub extern "C" fn caldurrex_quantise(m: u32, samples: &[u8], soft: &mut [i16]) -
     ensures { λ r. ⌜ quantised r (now (soft .exit)) ≡ quantiseOutcome m (now (samples .entry)) (now (soft .entry)) ⌝ }
 {
     quantise::quantise(m, samples, soft)
+}
+
+#[no_mangle]
+pub extern "C" fn caldurrex_write_result(
+    m: u32,
+    rows: u32,
+    frame: u32,
+    ceiling: i32,
+    scores: &[i32],
+    inputs: &[u8],
+    bytes: &mut [u8],
+) -> RecordLength
+    ensures { λ r. ⌜ hostWriting r (now (bytes .exit))
+        ≡ lengthForHost (writeResultOutcome (resultOf m rows frame ceiling (now (scores .entry)) (now (inputs .entry))) (now (bytes .entry))) ⌝ }
+{
+    result_writer::write_result_for_host(m, rows, frame, ceiling, scores, inputs, bytes)
+}
+
+#[no_mangle]
+pub extern "C" fn caldurrex_read_result(
+    bytes: &[u8],
+    scores: &mut [i32],
+    inputs: &mut [u8],
+) -> ResultFields
+    ensures { λ r. ⌜ hostCustomer r (now (scores .exit)) (now (inputs .exit))
+        ≡ customerForHost (customerOutcome (now (bytes .entry)) (now (scores .entry)) (now (inputs .entry))) ⌝ }
+{
+    result::read_result_fields(bytes, scores, inputs)
+}
+
+#[no_mangle]
+pub extern "C" fn caldurrex_read_result_operator(bytes: &[u8], scores: &mut [i32]) -> ResultFields
+    ensures { λ r. ⌜ hostOperator r (now (scores .exit)) ≡ operatorForHost (operatorOutcome (now (bytes .entry)) (now (scores .entry))) ⌝ }
+{
+    result::read_result_operator_fields(bytes, scores)
 }

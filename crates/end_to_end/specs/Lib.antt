@@ -2,3 +2,4 @@ pub mod EndToEnd
 pub mod EndToEndExamples
 pub mod TestLoad
 pub mod SampledBlock
+pub mod DecodedResult

@@ -10,6 +10,7 @@ use lib.Dec.{ltb, eqb}
 use lib.ListN.{length, take, drop, length-append}
 use lib.Seq.{drop-at, take-append-seam, getD-append-seam, getD-append-add}
 use lib.IntN.{ℤ, pos, negsuc}
+use lib.Signed.{mag}
 use Rattle.spec.specs.Code.{pairsIn}
 use Rattle.spec.specs.Faults.{some}
 use Rattle.spec.specs.Refusals.{outOfRange}
@@ -18,7 +19,8 @@ use Rattle.spec.specs.RecordOf.{Field, absent, present, valueOr, PairField, una
 use Rattle.laws.specs.FirstFault.{not-either}
 use Rattle.laws.specs.Accepted.{Ruled}
 use Rattle.laws.specs.Pairs.{pairs-long}
-use Rattle.job_fields.specs.Signed.{signed-low, signed-high}
+use Rattle.laws.specs.Signed.{bits-within, signed-back}
+use Rattle.laws.specs.WrittenForm.{four-bytes, field-bit}
 
 -- ---- numbers from their bytes
 one-byte : (x : ℕ) → x < 256 → x % 256 ≡ x
@@ -27,10 +29,6 @@ one-byte x h = omega arith
 two-bytes : (x : ℕ) → x < 65536 → x % 256 + 256 * (x / 256 % 256) ≡ x
 two-bytes x h = omega arith
 
-four-bytes : (x : ℕ) → x < 4294967296
-    → x % 256 + 256 * (x / 256 % 256) + 65536 * (x / 256 / 256 % 256 + 256 * (x / 256 / 256 / 256 % 256)) ≡ x
-four-bytes x h = omega arith
-
 -- two bytes behind any others
 two-behind : (xs : List ℕ) (x : ℕ) (ys : List ℕ) → x < 65536 → twoAt (xs ++ (lowFirst 2 x ++ ys)) (length xs) ≡ x
 two-behind xs x ys h =
@@ -38,10 +36,6 @@ two-behind xs x ys h =
     ∙ two-bytes x h
 
 -- ---- the bits of byte 0
-field-bit : (f : Field) → fieldBit f ≤ 1
-field-bit absent = omega arith
-field-bit (present x) = omega arith
-
 pair-bit : (q : PairField) → pairBit q ≤ 1
 pair-bit unannounced = omega arith
 pair-bit (announced s) = omega arith
@@ -124,16 +118,15 @@ paired flags (announced q) pre rest s split place bit r =
 
 -- ---- the soft values
 -- a value in range, from its 16 bits
-signed-back : (y : ℤ) → outOfRange y ≡ false → signed16 (sixteenBits y) ≡ y
-signed-back (pos k) e = sym (signed-low k (omega (arith, ltb-false 2047 k e)))
-signed-back (negsuc k) e =
-    let h : k ≤ 2047 = ltb-false 2047 k (not-either (ltb 2047 k) false e .0) in
-    let d : 65535 - (65535 - k) ≡ k = omega arith in
-    sym (signed-high (65535 - k) (omega arith) (omega arith)) ∙ ap negsuc d
+small : (y : ℤ) → outOfRange y ≡ false → mag y < 32768
+small (pos k) e = omega (arith, ltb-false 2047 k e)
+small (negsuc k) e = omega (arith, ltb-false 2047 k (not-either (ltb 2047 k) false e .0))
+
+sixteen-back : (y : ℤ) → outOfRange y ≡ false → signed16 (sixteenBits y) ≡ y
+sixteen-back y e = signed-back 32768 65535 refl y (small y e)
 
 sixteen : (y : ℤ) → outOfRange y ≡ false → sixteenBits y < 65536
-sixteen (pos k) e = omega (arith, ltb-false 2047 k e)
-sixteen (negsuc k) e = omega arith
+sixteen y e = omega (arith, bits-within 32768 65535 refl y (small y e))
 
 -- the values behind any bytes
 pub soft-back : (xs : List ℕ) (ys : List ℤ) → some outOfRange ys ≡ false → softFrom (xs ++ softBytes ys) (length xs) (length ys) ≡ ys
@@ -145,7 +138,7 @@ soft-back xs (y ∷ ys) e =
     let ahead : List ℕ = xs ++ lowFirst 2 x in
     let s : List ℕ = xs ++ softBytes (y ∷ ys) in
     let value : signed16 (twoAt s (length xs)) ≡ y
-    = ap signed16 (two-behind xs x (softBytes ys) (sixteen y (r .0))) ∙ signed-back y (r .0) in
+    = ap signed16 (two-behind xs x (softBytes ys) (sixteen y (r .0))) ∙ sixteen-back y (r .0) in
     let split : s ≡ ahead ++ softBytes ys = sym (append-assoc xs (lowFirst 2 x) (softBytes ys)) in
     let place : length xs + 2 ≡ length ahead = sym (length-append xs (lowFirst 2 x)) in
     ap₂ _∷_ value (ap₂ (λ (s : List ℕ) (at : ℕ). softFrom s at (length ys)) split place ∙ soft-back ahead ys (r .1))

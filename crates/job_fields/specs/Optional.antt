@@ -1,21 +1,11 @@
--- Fields that a record may have: what one is where it stands and where it does not, and that a record has the bytes of one that
--- stands.
-use mathlib.Core.Path.{_≡_, refl}
+-- Fields that a record may have: it has the bytes of one that stands.
+use mathlib.Core.Path.{_≡_}
 use mathlib.Core.List.{List}
-use Prim.Native.Nat.{ℕ, zero, suc, _+_, _/_, _%_, _<_}
-use native.Mathlib.Nat.{suc-ne-zero}
+use Prim.Native.Nat.{ℕ, _+_, _/_, _%_, _<_}
 use native.Mathlib.Omega.{arith}
 use lib.ListN.{length}
-use Rattle.spec.specs.Record.{ifPresent, fields, stopAt, frameAt}
+use Rattle.spec.specs.Record.{fields, stopAt, frameAt}
 use Rattle.job_fields.specs.Laid.{Shaped}
-
-pub if-absent : (b value absence : ℕ) → b ≡ 0 → absence ≡ ifPresent b value absence
-if-absent zero value absence e = refl
-if-absent (suc b) value absence e = absurd (suc-ne-zero b e)
-
-pub if-present : (b value absence : ℕ) → (b ≡ 0 → ⊥) → value ≡ ifPresent b value absence
-if-present zero value absence x = absurd (x refl)
-if-present (suc b) value absence x = refl
 
 module _ {s : List ℕ} (w : Shaped s) where
   pub size-within : (fields s % 2 ≡ 0 → ⊥) → 2 < length s

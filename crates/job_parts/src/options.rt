@@ -1,22 +1,11 @@
 // The fields that may be left out, written from a place on. Each function returns the place behind what it wrote.
-use numbers::put_low;
+use record_writer::put_unless;
 ghost use mathlib.Core.List.{_++_};
 ghost use Prim.Native.Nat.{_+_, _≤_};
 ghost use lib.ListN.{length};
 ghost use Rattle.spec.specs.RecordOf.{fieldBytes};
 ghost use Rattle.spec.specs.JobWriter.{unless};
 ghost use Rattle.place.specs.Put.{Put};
-
-// A field of so many bytes, which is left out where its value is the one that absence means.
-fn put_unless(out: &mut [u8], at: usize, count: usize, absence: u32, x: u32) -> usize
-    requires { ⌜ at + count ≤ length (now out) ⌝ }
-    ensures { λ r. ⌜ (Put at (fieldBytes count (unless absence x)) (now (out .entry)) r (now (out .exit))) × (r ≤ at + count) ⌝ }
-{
-    if x == absence {
-        return at;
-    }
-    put_low(out, at, count, x)
-}
 
 // List size, stop position and frame number.
 pub(crate) fn put_options(out: &mut [u8], at: usize, n: u32, l: u32, p: u32, frame: u32) -> usize

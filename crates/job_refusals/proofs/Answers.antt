@@ -12,7 +12,7 @@ use Rattle.spec.specs.Record.{twoAt, fields, positions, countAt, pairsAt, pairC
 use Rattle.laws.specs.FirstFault.{First, none, here, later, is-first, of-first, differ, same}
 use Rattle.job_fields.specs.declared.layout.Layout.{Layout}
 use Rattle.job_fields.specs.Laid.{Laid}
-use Rattle.job_fields.specs.Optional.{if-absent, if-present}
+use Rattle.laws.specs.Optional.{if-absent, if-present}
 use Rattle.job_refusals.specs.Shape.{lengthFaults, Found}
 use Rattle.job_refusals.specs.declared.shape.Located.{Located}
 use Rattle.job_refusals.specs.declared.shape.Located.the-variants.{At, Refused}

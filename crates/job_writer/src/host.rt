@@ -1,32 +1,11 @@
 // The writer for a host that has no enum: the answer as two numbers.
-use crate::Length;
 use crate::write_job;
+use record_writer::RecordLength;
+use record_writer::length_for_host;
 ghost use mathlib.Core.Path.{_≡_};
 ghost use Rattle.spec.specs.Code.{code};
 ghost use Rattle.spec.specs.JobWriter.{fieldsOf, writeOutcome};
-ghost use Rattle.job_writer.specs.Answer.{lengthOf, hostLength, hostWriting, lengthForHost};
-
-// 0 and the length of the record that was written; else the refusal number, and 0.
-#[repr(C)]
-pub struct RecordLength {
-    pub refusal: u32,
-    pub length: u32,
-}
-
-fn length_for_host(answer: Length) -> RecordLength
-    ensures { λ r. ⌜ r ≡ hostLength (lengthOf answer) ⌝ }
-{
-    match answer {
-        Length::Bytes(k) => RecordLength {
-            refusal: 0,
-            length: k,
-        },
-        Length::Refused(k) => RecordLength {
-            refusal: k,
-            length: 0,
-        },
-    }
-}
+ghost use Rattle.record_writer.specs.Answer.{hostWriting, lengthForHost};
 
 // write_job, answered by RecordLength.
 pub fn write_job_for_host(

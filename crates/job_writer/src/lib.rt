@@ -3,8 +3,8 @@ mod host;
 mod whole;
 
 use decode_refusals::block_refusal;
-pub use host::RecordLength;
 pub use host::write_job_for_host;
+use record_writer::Length;
 use slices::fill_bytes;
 pub use whole::record_length;
 pub use whole::write_record;
@@ -12,13 +12,7 @@ ghost use mathlib.Core.Path.{_≡_};
 ghost use Rattle.spec.specs.Code.{code};
 ghost use Rattle.spec.specs.Outcome.{writing};
 ghost use Rattle.spec.specs.JobWriter.{fieldsOf, writeOutcome};
-ghost use Rattle.job_writer.specs.Answer.{lengthOf};
-
-// The length of the record that was written, or the refusal number.
-pub enum Length {
-    Bytes(u32),
-    Refused(u32),
-}
+ghost use Rattle.record_writer.specs.Answer.{lengthOf};
 
 // Writes the record of a job, each optional field left out whose value is the one that absence means, and 0 behind it. A call that is
 // refused writes nowhere.

@@ -29,6 +29,8 @@ pub mod PairRuns
 pub mod Inputs
 pub mod Accepted
 pub mod DecodeCall
+pub mod Optional
+pub mod Signed
 pub mod WriteCall
 pub mod WrittenForm
 pub mod Draws
@@ -36,5 +38,8 @@ pub mod Noise
 pub mod LoadCall
 pub mod SoftPairs
 pub mod SampleCall
+pub mod PackedRows
+pub mod ResultReading
+pub mod ResultWriting
 pub mod FullScale
 pub mod ScoreOfChildren

@@ -2,7 +2,7 @@
 use mathlib.Core.Path.{_≡_, refl, sym, ap}
 use mathlib.Core.Bool.{Bool, true, false, cond}
 use mathlib.Core.List.{List, [], _∷_, _++_}
-use Prim.Native.Nat.{ℕ, zero, suc, _+_, _*_, _/_, _%_, _≤_}
+use Prim.Native.Nat.{ℕ, zero, suc, _+_, _*_, _/_, _%_, _≤_, _<_}
 use native.Mathlib.Nat.{suc-ne-zero}
 use native.Mathlib.Omega.{arith}
 use borrow.Author.Tests.{eq-eqb, ne-eqb, eqb-true}
@@ -49,16 +49,25 @@ pairs-back (x ∷ s) = refl
 pub code-back : (f : Fields) → codeSaid (leanest f) ≡ f .code
 code-back f = ap (code (f .code .m) (f .code .arikan) (f .code .map)) (pairs-back (f .code .pairs))
 
+-- a number of 32 bits is made of its four bytes
+pub four-bytes : (x : ℕ) → x < 4294967296
+    → x % 256 + 256 * (x / 256 % 256) + 65536 * (x / 256 / 256 % 256 + 256 * (x / 256 / 256 / 256 % 256)) ≡ x
+four-bytes x h = omega arith
+
 -- ---- how long a record is, by what it says
 pub length-softBytes : (ys : List ℤ) → length (softBytes ys) ≡ 2 * length ys
 length-softBytes [] = refl
 length-softBytes (y ∷ ys) = omega (arith, length-softBytes ys)
 
-length-low : (k x : ℕ) → length (lowFirst k x) ≡ k
+pub length-low : (k x : ℕ) → length (lowFirst k x) ≡ k
 length-low zero x = refl
 length-low (suc k) x = ap suc (length-low k (x / 256))
 
-length-field : (k : ℕ) (f : Field) → length (fieldBytes k f) ≡ k * fieldBit f
+pub field-bit : (f : Field) → fieldBit f ≤ 1
+field-bit absent = omega arith
+field-bit (present x) = omega arith
+
+pub length-field : (k : ℕ) (f : Field) → length (fieldBytes k f) ≡ k * fieldBit f
 length-field k absent = omega arith
 length-field k (present x) = omega (arith, length-low k x)
 

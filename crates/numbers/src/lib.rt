@@ -1,4 +1,8 @@
-// Numbers of one, two and four bytes, low byte first: read from a slice, and put into one.
+// Numbers of one, two and four bytes, low byte first: read from a slice, and put into one. Those of four bytes may be signed.
+mod signed;
+
+pub use signed::signed_four;
+pub use signed::thirty_two_bits;
 ghost use mathlib.Core.Path.{_≡_};
 ghost use Prim.Native.Nat.{_+_, _*_, _%_, _≤_, _<_};
 ghost use lib.ListN.{length};

@@ -4,12 +4,11 @@ use mathlib.Core.List.{List, [], _∷_, _++_, map}
 use Prim.Native.Nat.{ℕ, zero, suc, _+_, _-_, _*_, _/_, _%_, _<_, _≤_}
 use native.Mathlib.Omega.{arith}
 use native.Mathlib.Nat.{mod-eq-of-lt}
-use lib.ListN.{length, take, drop, getD, replicate, length-append}
+use lib.ListN.{length, take, drop, getD, length-append}
 use lib.Seq.{take-length, take-suc}
-use Rattle.spec.specs.Bits.{Bits, nil, cons}
+use Rattle.spec.specs.Bits.{Bits, nil}
 use Rattle.spec.specs.Outcome.{padded, concat}
-use Rattle.laws.specs.BitLaws.{bits-snoc}
-use Rattle.laws.specs.BitLaws.{bits-append}
+use Rattle.laws.specs.BitLaws.{bits-snoc, bits-append, bits-zeros}
 use Rattle.rows.specs.Blocks.{filledRow, concat-more}
 
 -- the history g leads back from rank r after i positions to the prefix w
@@ -66,10 +65,6 @@ bits-back l g zero r = nil
 bits-back l g (suc i) r =
     let x : ℕ = getD g (l * i + r) 0 in
     bits-snoc (x % 2) (bits-back l g i (x / 2 % 32)) (omega arith)
-
-bits-zeros : (k : ℕ) → Bits (replicate k 0)
-bits-zeros zero = nil
-bits-zeros (suc k) = cons {x = 0} (omega arith) (bits-zeros k)
 
 bits-rows : (l : ℕ) (g : List ℕ) (p n count : ℕ) → Bits (concat (map (filledRow n) (prefixesBack l g p count)))
 bits-rows l g p n zero = nil

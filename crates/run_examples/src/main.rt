@@ -7,6 +7,7 @@ mod decoding;
 mod lines;
 mod lists;
 mod loading;
+mod results;
 mod sampling;
 mod say;
 mod writing;
@@ -16,13 +17,13 @@ use coding::code_line;
 use lines::byte_at;
 use lines::find;
 use lines::word_end;
+use results::result_line;
 use sampling::sample_line;
 use say::say;
 
 // The second letter tells the names encode, extract, quantise, decode, write and load apart.
-fn run_call(call: &[u8]) {
+fn code_call(call: &[u8], at: usize) {
     let letter = byte_at(call, 3);
-    let at = word_end(call, 1);
     if letter == b'n' {
         code_line(false, call, at);
     } else if letter == b'x' {
@@ -31,6 +32,27 @@ fn run_call(call: &[u8]) {
         sample_line(call, at);
     } else if letter != 0 {
         block_line(letter, call, at);
+    }
+}
+
+// The calls on result records are result, customer and operator: no other name begins with such a letter.
+fn is_result(letter: u8) -> bool {
+    if letter == b'r' {
+        return true;
+    }
+    if letter == b'c' {
+        return true;
+    }
+    letter == b'o'
+}
+
+fn run_call(call: &[u8]) {
+    let letter = byte_at(call, 2);
+    let at = word_end(call, 1);
+    if is_result(letter) {
+        result_line(letter, call, at);
+    } else {
+        code_call(call, at);
     }
 }
 
@@ -51,7 +73,7 @@ fn run(text: &[u8]) {
 }
 
 fn main() {
-    let mut text = [0u8; 16384];
+    let mut text = [0u8; 20480];
     let len = io::read_full(0, &mut text);
     run(&text[..len]);
 }

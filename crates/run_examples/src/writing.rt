@@ -2,13 +2,13 @@
 use crate::lines::least;
 use crate::say::say_number;
 use crate::say::say_spaced;
-use job_writer::Length;
 use job_writer::write_job;
+use record_writer::Length;
 ghost use mathlib.Core.Path.{_≡_};
 ghost use Prim.Native.Nat.{_≤_};
 ghost use lib.ListN.{length};
 
-fn say_length(answer: Length) {
+pub(crate) fn say_length(answer: Length) {
     match answer {
         Length::Bytes(k) => say_number(b": length ", k),
         Length::Refused(k) => say_number(b": refused ", k),

@@ -4,6 +4,7 @@ pub mod FirstRow
 pub mod FirstRowExamples
 pub mod SearchCeiling
 pub mod CodeInputs
+pub mod RowsByRank
 pub mod Ceiling
 pub mod CeilingExamples
 pub mod SoleLeader

@@ -50,16 +50,19 @@ module _ (s : List ℕ → ℤ) (kids : ℕ → List ℕ → List (List ℕ)) (l
       next (inl m) = cut (in-cut l (in-sort (ahead s) (in-families (kids i) m (f i (omega arith)))))
       next (inr (j, h, m)) = inr (j, omega arith, in-left (drop l offered) m)
 
+  -- the first prefix scores no higher than the ceiling
+  pub first-below : (i : ℕ) → T (leZ (s (headOf (liveBy s kids l i))) (ceilingBy s kids l i))
+  unfolding ceilingBy
+  first-below i = base-below (s (headOf (liveBy s kids l i))) (map s (droppedBy s kids l i))
+
   module _ (some : 1 ≤ l) (rule : (i : ℕ) (w : List ℕ) → Goes w (kids i w)) where
-    -- a live prefix and a dropped one score no higher than the ceiling
+    -- nor does a live prefix, nor a dropped one
     live-below : (i : ℕ) {w : List ℕ} → In w (liveBy s kids l i) → T (leZ (s w) (ceilingBy s kids l i))
-    unfolding ceilingBy
     live-below i {w} m =
-        let top : ℤ = s (headOf (liveBy s kids l i)) in
         let h = live-leads s kids l some rule i in
-        leZ-trans (s w) top (ceilingBy s kids l i)
+        leZ-trans (s w) (s (headOf (liveBy s kids l i))) (ceilingBy s kids l i)
         (subst (λ (v : List ℕ). T (leZ (s w) (s v))) (sym (leads-head s (h .1))) (leads-score s (h .1) m))
-        (base-below top (map s (droppedBy s kids l i)))
+        (first-below i)
 
     dropped-below : (i : ℕ) {w : List ℕ} → In w (droppedBy s kids l i) → T (leZ (s w) (ceilingBy s kids l i))
     unfolding ceilingBy

@@ -54,6 +54,21 @@ module _ (w : Width) (z : ℤ) (f : SFits w z) where
     pub not-below : T (nonNeg v)
     not-below = not-negative v t
 
+-- ---- a number below 0 as code makes it: −1 − n, for an n that is not too large
+minus-one : (n : ℕ) → (negsuc 0 -ℤ pos n) ≡ negsuc n
+minus-one zero = refl
+minus-one (suc n) = let e : 0 + n ≡ n = omega arith in ap (λ (k : ℕ). negsuc (suc k)) e
+
+module _ (w : Width) (n : ℕ) (h : n < 2 ^ hbits w) where
+  pub below-zero : (negsuc 0 -ℤ toZ w n) ≡ negsuc n
+  below-zero = ap (λ (z : ℤ). negsuc 0 -ℤ z) (toZ-pos w n h) ∙ minus-one n
+
+  pub below-zero-fits : SFits w (negsuc 0 -ℤ toZ w n)
+  below-zero-fits = subst (SFits w) (sym below-zero) (record { sfits = h })
+
+  pub below-zero-back : toZ w (ofZ w (negsuc 0 -ℤ toZ w n)) ≡ negsuc n
+  below-zero-back = toZ-ofZ w (negsuc 0 -ℤ toZ w n) below-zero-fits ∙ below-zero
+
 -- ---- the difference of two numbers a and b
 difference : (a b : ℕ) → b ≤ a → pos (a - b) ≡ (pos a -ℤ pos b)
 difference a b h =

@@ -17,6 +17,9 @@ pub mod Samples
 pub mod SampleExamples
 pub mod NearestIsNearest
 pub mod SamplesAreFloats
+pub mod ResultRecord
+pub mod ResultWriter
+pub mod ResultExamples
 pub mod SignedOrder
 pub mod ScoreIsLargest
 pub mod OrderIsTotal

@@ -19,9 +19,16 @@ twoAt s at = byteAt s at + 256 * byteAt s (at + 1)
 abbrev pub fourAt : List ℕ → ℕ → ℕ
 fourAt s at = twoAt s at + 65536 * twoAt s (at + 2)
 
--- a number of 16 bits, read as a signed one
+-- a number below twice a half, read as a signed one: from the half on it lies below 0
+abbrev pub signedFrom : ℕ → ℕ → ℤ
+signedFrom half x = cond (ltb x half) (pos x) (pos x -ℤ pos (2 * half))
+
+-- a number of 16 and of 32 bits
 abbrev pub signed16 : ℕ → ℤ
-signed16 x = cond (ltb x 32768) (pos x) (pos x -ℤ pos 65536)
+signed16 x = signedFrom 32768 x
+
+abbrev pub signed32 : ℕ → ℤ
+signed32 x = signedFrom 2147483648 x
 
 -- n signed numbers of two bytes from a place
 unfoldable pub softFrom : List ℕ → ℕ → ℕ → List ℤ
@@ -40,7 +47,7 @@ abbrev pub mapAt : ℕ → ℕ
 mapAt fields = frameAt fields + 4 * (fields / 4 % 2)
 
 -- a field whose bit stands, or what its absence means
-abbrev pub ifPresent : ℕ → ℕ → ℕ → ℕ
+abbrev pub ifPresent : {A : Type 0} → ℕ → A → A → A
 ifPresent zero value absent = absent
 ifPresent (suc b) value absent = value
 

@@ -67,11 +67,18 @@ abbrev pub pairBytes : PairField → List ℕ
 pairBytes unannounced = []
 pairBytes (announced s) = lowFirst 2 (length (pairsIn s)) ++ s
 
--- the 16 bits of a soft value in two's complement, and the bytes of all values
-abbrev pub sixteenBits : ℤ → ℕ
-sixteenBits (pos k) = k
-sixteenBits (negsuc k) = 65535 - k
+-- the bits of a signed number in two's complement: −1 has all bits set, and is `top`
+abbrev pub bitsUnder : ℕ → ℤ → ℕ
+bitsUnder top (pos k) = k
+bitsUnder top (negsuc k) = top - k
 
+abbrev pub sixteenBits : ℤ → ℕ
+sixteenBits y = bitsUnder 65535 y
+
+abbrev pub thirtyTwoBits : ℤ → ℕ
+thirtyTwoBits y = bitsUnder 4294967295 y
+
+-- the bytes of all soft values
 abbrev pub softBytes : List ℤ → List ℕ
 softBytes [] = []
 softBytes (y ∷ ys) = lowFirst 2 (sixteenBits y) ++ softBytes ys

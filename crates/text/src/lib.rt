@@ -1,7 +1,7 @@
 // Bits and numbers put into a buffer as text.
 mod bits;
-mod numbers;
+mod decimals;
 
 pub use bits::put_bits;
-pub use numbers::put_number;
-pub use numbers::put_signed;
+pub use decimals::put_number;
+pub use decimals::put_signed;

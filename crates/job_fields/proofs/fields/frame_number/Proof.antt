@@ -4,7 +4,8 @@ use Prim.Native.Nat.{ℕ, _+_, _/_, _%_, _<_}
 use borrow.Author.Needs.{needs}
 use lib.ListN.{length}
 use Rattle.spec.specs.Record.{fourAt, fields, frameAt}
-use Rattle.job_fields.specs.Optional.{if-absent, if-present, frame-within}
+use Rattle.laws.specs.Optional.{if-absent, if-present}
+use Rattle.job_fields.specs.Optional.{frame-within}
 use Rattle.job_fields.proofs.fields.frame_number.Statement.{statement}
 use Rattle.job_fields.proofs.fields.frame_number.Tie as tie
 

@@ -3,7 +3,8 @@ use mathlib.Core.Path.{_≡_, sym, ap, _∙_}
 use Prim.Native.Nat.{ℕ, _%_}
 use borrow.Author.Needs.{needs}
 use Rattle.spec.specs.Record.{byteAt, fields}
-use Rattle.job_fields.specs.Optional.{if-absent, if-present, size-within}
+use Rattle.laws.specs.Optional.{if-absent, if-present}
+use Rattle.job_fields.specs.Optional.{size-within}
 use Rattle.job_fields.proofs.fields.list_size.Statement.{statement}
 use Rattle.job_fields.proofs.fields.list_size.Tie as tie
 

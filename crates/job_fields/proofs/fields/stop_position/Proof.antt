@@ -4,7 +4,8 @@ use Prim.Native.Nat.{ℕ, _+_, _/_, _%_, _<_}
 use borrow.Author.Needs.{needs}
 use lib.ListN.{length}
 use Rattle.spec.specs.Record.{twoAt, fields, positions, stopAt}
-use Rattle.job_fields.specs.Optional.{if-absent, if-present, stop-within}
+use Rattle.laws.specs.Optional.{if-absent, if-present}
+use Rattle.job_fields.specs.Optional.{stop-within}
 use Rattle.job_fields.proofs.fields.stop_position.Statement.{statement}
 use Rattle.job_fields.proofs.fields.stop_position.Tie as tie
 

@@ -1,5 +1,5 @@
 -- `job_parts::soft::sixteen_bits` meets its contract: the negative numbers, and those that are not. Assumes nothing.
-use mathlib.Core.Path.{_≡_, refl, sym, ap, subst, _∙_}
+use mathlib.Core.Path.{_≡_, sym, ap, subst, _∙_}
 use Prim.Native.Nat.{_-_, _<_}
 use native.Mathlib.Omega.{arith}
 use lib.Dec.{T}
@@ -10,12 +10,9 @@ use mir.Val.{toZ, ofZ}
 use mir.ValLaws.{toZ-ofZ}
 use Rattle.spec.specs.RecordOf.{sixteenBits}
 use Rattle.signs.specs.Signs.{is-negative, flip-fits, flip-back, not-below}
+use Rattle.laws.specs.Signed.{plain-bits}
 use Rattle.job_parts.proofs.soft.sixteen_bits.Statement.{statement}
 use Rattle.job_parts.proofs.soft.sixteen_bits.Tie as tie
-
-other : (y : ℤ) → T (nonNeg y) → natAbs y ≡ sixteenBits y
-other (pos k) t = refl
-other (negsuc k) t = absurd t
 
 flipped : (c : tie.Then1) → toZ w16 (ofZ w16 (negsuc 0 -ℤ toZ w16 (ofZ w16 (c .before .args .y)))) ≡ pos (mag (c .before .args .y))
 flipped c = flip-back w16 (c .before .args .y) (c .before .fits .y) (c .if1 .taken)
@@ -54,7 +51,7 @@ returns-2 : tie.Need-returns-2
 returns-2 c =
     let y = c .before .args .y in
     let f = c .before .fits .y in
-    ap natAbs (plain-back c) ∙ other y (subst (λ (v : ℤ). T (nonNeg v)) (plain-back c) (not-below w16 y f (c .if1 .left)))
+    ap natAbs (plain-back c) ∙ plain-bits 65535 y (subst (λ (v : ℤ). T (nonNeg v)) (plain-back c) (not-below w16 y f (c .if1 .left)))
 
 pub sixteen-bits-spec : {M : Type 1} → statement M
 sixteen-bits-spec =

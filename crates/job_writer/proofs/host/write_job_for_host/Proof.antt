@@ -3,8 +3,8 @@ use mathlib.Core.Path.{_≡_, ap, _∙_}
 use mathlib.Core.List.{List}
 use Prim.Native.Nat.{ℕ}
 use borrow.Author.Needs.{needs}
-use Rattle.job_writer.specs.Answer.{hostWriting, lengthForHost}
-use Rattle.job_writer.specs.declared.host.RecordLength.{RecordLength}
+use Rattle.record_writer.specs.Answer.{hostWriting, lengthForHost}
+use Rattle.record_writer.specs.declared.length.RecordLength.{RecordLength}
 use Rattle.job_writer.proofs.host.write_job_for_host.Statement.{statement}
 use Rattle.job_writer.proofs.host.write_job_for_host.Tie as tie
 

@@ -1,22 +1,11 @@
 -- `run_examples::lists::signed` meets its contract: both halves of the numbers of 16 bits fit. Assumes nothing.
-use mathlib.Core.Path.{_≡_, refl, sym, ap, subst, _∙_}
-use Prim.Native.Nat.{ℕ, zero, suc, _+_, _-_, _<_, _%_}
+use Prim.Native.Nat.{_-_, _<_, _%_}
 use native.Mathlib.Omega.{arith}
 use borrow.Author.Needs.{needs}
-use lib.IntN.{ℤ, pos, negsuc, _-ℤ_}
 use mir.Syntax.{w16}
-use mir.Val.{SFits, toZ}
-use mir.ValLaws.{toZ-pos}
+use Rattle.signs.specs.Signs.{below-zero-fits}
 use Rattle.run_examples.proofs.lists.signed.Statement.{statement}
 use Rattle.run_examples.proofs.lists.signed.Tie as tie
-
-minus-one : (k : ℕ) → (negsuc 0 -ℤ pos k) ≡ negsuc k
-minus-one zero = refl
-minus-one (suc k) = let e : 0 + k ≡ k = omega arith in ap (λ (n : ℕ). negsuc (suc n)) e
-
-below-fits : (k : ℕ) → k < 32768 → SFits w16 (negsuc 0 -ℤ toZ w16 k)
-below-fits k h =
-    subst (SFits w16) (sym (ap (λ (z : ℤ). negsuc 0 -ℤ z) (toZ-pos w16 k h) ∙ minus-one k)) (record { sfits = h })
 
 low : (c : tie.Else1) → 65535 - c .before .args .number % 65536 < 32768
 low c = let h = c .if1 .left in omega arith
@@ -31,7 +20,7 @@ cast-result-2 : tie.Need-cast-result-2
 cast-result-2 c = search needs
 
 sub-result-2 : tie.Need-sub-result-2
-sub-result-2 c = below-fits (65535 - c .before .args .number % 65536) (low c)
+sub-result-2 c = below-zero-fits w16 (65535 - c .before .args .number % 65536) (low c)
 
 returns : tie.Need-returns
 returns c = search needs
