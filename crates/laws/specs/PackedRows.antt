@@ -1,17 +1,15 @@
 -- Packed rows of n positions, seen as bytes of so many bits each: rows fill their bytes from eight positions on, and a row of four has a
 -- byte of its own. Assumes nothing.
 use mathlib.Core.Path.{_≡_, refl, sym, ap, ap₂, _∙_}
-use mathlib.Core.Bool.{Bool, false, _||_}
+use mathlib.Core.Bool.{false, _||_}
 use mathlib.Core.List.{List, [], _∷_, _++_, append-assoc}
 use Prim.Native.Nat.{ℕ, zero, suc, _+_, _-_, _*_, _^_, _≤_, _<_}
 use native.Mathlib.Omega.{arith}
-use lib.Dec.{ltb}
 use lib.ListN.{length, take, drop, length-append, length-take, length-drop, take-append-drop}
 use lib.Seq.{drop-drop, take-all, take-nil, take-take, length-take-le}
 use lib.Pow.{pow-add, pow-mono}
 use Rattle.spec.specs.Bits.{Bits, bitsOf, packed, unpacked}
 use Rattle.spec.specs.Code.{mapBytes}
-use Rattle.spec.specs.Refusals.{pastEnd}
 use Rattle.spec.specs.ResultRecord.{rowsFrom, somePast}
 use Rattle.spec.specs.ResultWriter.{packedBytes, packedRows}
 use Rattle.laws.specs.BitLaws.{packed-lt}
@@ -25,11 +23,6 @@ bitsOfEach w (x ∷ s) = bitsOf w x ++ bitsOfEach w s
 unfoldable pub packedEach : ℕ → ℕ → List ℕ → List ℕ
 packedEach w zero u = []
 packedEach w (suc c) u = packed (take w u) ∷ packedEach w c (drop w u)
-
-pub length-packedEach : (w c : ℕ) (u : List ℕ) → length (packedEach w c u) ≡ c
-unfolding packedEach
-length-packedEach w zero u = refl
-length-packedEach w (suc c) u = ap suc (length-packedEach w c (drop w u))
 
 -- at most eight bits make a byte
 pub packed-small : {u : List ℕ} → Bits u → length u ≤ 8 → packed u < 256

@@ -1,11 +1,37 @@
 // Bits into packed bytes.
 use place::put_byte;
 ghost use mathlib.Core.Path.{_≡_};
+ghost use mathlib.Core.Bool.{_||_};
 ghost use Prim.Native.Nat.{_+_, _*_, _≤_};
+ghost use lib.Dec.{ltb};
 ghost use lib.ListN.{length};
 ghost use Rattle.spec.specs.Bits.{Bits, packed};
+ghost use Rattle.spec.specs.Faults.{some};
 ghost use Rattle.place.specs.Put.{Put};
 ghost use Rattle.laws.specs.PackedRows.{packedEach};
+
+// One was found before, or x is no bit.
+fn or_above(found: bool, x: u8) -> bool
+    ensures { λ r. ⌜ r ≡ (found || ltb 1 x) ⌝ }
+{
+    if x > 1 {
+        return true;
+    }
+    found
+}
+
+// A byte that is no bit. All bytes are looked at, and none ends the loop: so it runs in vector instructions.
+pub fn some_not_bit(bits: &[u8]) -> bool
+    ensures { λ r. ⌜ r ≡ some (ltb 1) (now (bits .entry)) ⌝ }
+{
+    let mut found = false;
+    let mut i = 0;
+    while i < bits.len() {
+        found = or_above(found, bits[i]);
+        i += 1;
+    }
+    found
+}
 
 // At most eight bits as a number, the first the lowest.
 fn packed_bits(bits: &[u8]) -> u8

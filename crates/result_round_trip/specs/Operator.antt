@@ -3,9 +3,10 @@
 use mathlib.Core.Path.{_≡_, refl, sym, ap, ap₂, _∙_}
 use mathlib.Core.Bool.{not, _&&_}
 use mathlib.Core.List.{List, [], _∷_}
-use Prim.Native.Nat.{ℕ, zero, suc, _+_, _*_, _/_, _%_, _^_, _≤_, _<_}
+use Prim.Native.Nat.{ℕ, zero, suc, _+_, _-_, _*_, _/_, _%_, _^_, _≤_, _<_}
 use native.Mathlib.Omega.{arith}
-use lib.ListN.{length}
+use lib.ListN.{length, take, replicate}
+use lib.Seq.{take-at}
 use lib.Dec.{ltb, eqb}
 use lib.IntN.{ℤ, pos}
 use lib.Signed.{leZ}
@@ -16,7 +17,7 @@ use Rattle.spec.specs.Record.{byteAt, fourAt, signed32, ifPresent, fields, expo
 use Rattle.spec.specs.Outcome.{padded}
 use Rattle.spec.specs.ResultRecord.{scoresFrom, firstScore, rising, ceilingAt, scoresAt, rowCount, packedAt, resultFrame, resultScores, resultCeiling, operatorFaults, customerFaults, resultSays, refusedResult, saidBy, OperatorReading, operatorReading, operatorRefusal, operatorServed, operatorOutcome, CustomerReading, customerRefusal, customerServed, customerOutcome, OnlyPackedBitsDiffer}
 use Rattle.laws.specs.FirstFault.{of-first, is-first, Numbered, end, next, none-before, first-before, first-after}
-use Rattle.laws.specs.ResultReading.{customerLast, operator-served, customer-served, same-length-same-operator}
+use Rattle.laws.specs.ResultReading.{length-scoresFrom, customerLast, operator-served, customer-served, same-length-same-operator}
 
 -- ---- all that the operator reader goes by
 record Seen : Type 0 where
@@ -166,17 +167,25 @@ module _ (s : List ℕ) (scores inputs : ℕ) where
   unfolding customerRefusal operatorRefusal
   refused-alike k e n = first-before (operatorFaults s scores) (customerLast s inputs) k e n
 
--- where the customer reader accepts, so that both do, they agree on m, row count, frame number and ceiling, and on the scores,
--- whatever the lent scores held
-pub readers-agree : (s : List ℕ) (scores scores′ : List ℤ) (inputs : List ℕ) → length scores ≡ length scores′
-    → 0 ≡ customerRefusal s (length scores) (length inputs)
+-- the scores at the front of what a reader leaves
+listed : (s : List ℕ) (lent : ℕ) → take (rowCount s) (padded (pos 0) lent (resultScores s)) ≡ resultScores s
+listed s lent =
+    let ys : List ℤ = resultScores s in
+    take-at ys (replicate (lent - length ys) (pos 0)) (rowCount s) (length-scoresFrom s (scoresAt (fields s)) (rowCount s))
+
+-- where both readers accept they agree on m, row count, frame number and ceiling, and on the scores, however many were lent to either and
+-- whatever these held
+pub readers-agree : (s : List ℕ) (scores scores′ : List ℤ) (inputs : List ℕ)
+    → 0 ≡ customerRefusal s (length scores) (length inputs) → 0 ≡ operatorRefusal s (length scores′)
     → (customerOutcome s scores inputs .answer ≡ operatorOutcome s scores′ .answer)
-    × (customerOutcome s scores inputs .scores ≡ operatorOutcome s scores′ .scores)
+    × (take (rowCount s) (customerOutcome s scores inputs .scores) ≡ take (rowCount s) (operatorOutcome s scores′ .scores))
 unfolding customerServed operatorServed
-readers-agree s scores scores′ inputs e c =
-    let o : 0 ≡ operatorRefusal s (length scores) = customer-then-operator s (length scores) (length inputs) c in
+readers-agree s scores scores′ inputs c o =
     let a = sym (customer-served s scores inputs c) in
-    let b = operator-served s scores o ∙ same-length-same-operator s scores scores′ e o in (
+    let b = operator-served s scores′ o in (
       ap (λ (r : CustomerReading). r .answer) a ∙ ap (λ (r : OperatorReading). r .answer) b,
-      ap (λ (r : CustomerReading). r .scores) a ∙ ap (λ (r : OperatorReading). r .scores) b,
+      ap (λ (r : CustomerReading). take (rowCount s) (r .scores)) a
+          ∙ listed s (length scores)
+          ∙ sym (listed s (length scores′))
+          ∙ ap (λ (r : OperatorReading). take (rowCount s) (r .scores)) b,
     )

@@ -1,6 +1,6 @@
 // What a result is refused for before its length counts.
-use code::bit_refusal;
 use code::size;
+use packed_rows::some_not_bit;
 use slices::times;
 ghost use mathlib.Core.Path.{_≡_};
 ghost use mathlib.Core.List.{List};
@@ -53,8 +53,13 @@ fn given_refusal(m: u32, rows: u32, scores: &[i32], inputs: &[u8]) -> u32
         return 6;
     }
     let n = size(m);
-    let places = times(rows as usize, n);
-    bit_refusal(places, inputs)
+    if inputs.len() != times(rows as usize, n) {
+        return 6;
+    }
+    if some_not_bit(inputs) {
+        return 11;
+    }
+    0
 }
 
 // Refusal 22, or 0.

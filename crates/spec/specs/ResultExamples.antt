@@ -3,7 +3,7 @@ use mathlib.Core.Path.{_≡_, refl}
 use mathlib.Core.List.{List, [], _∷_, _++_, map}
 use Prim.Native.Nat.{ℕ}
 use lib.ListN.{replicate}
-use lib.IntN.{ℤ, pos, negsuc}
+use lib.IntN.{pos, negsuc}
 use Rattle.spec.specs.Bits.{bitsOf, packed, unpacked}
 use Rattle.spec.specs.Faults.{first, some}
 use Rattle.spec.specs.Refusals.{pastEnd}
@@ -107,7 +107,7 @@ customer-past = refl
 
 pub operator-sample : map (λ (s : List ℕ). operatorOutcome s (replicate 3 (pos 9))) (sampleBytes ∷ pastSample ∷ [])
     ≡ replicate 2 (operatorReading (resultSays 2 2 0 (pos 13)) (pos 13 ∷ pos 11 ∷ pos 0 ∷ []))
-unfolding sampleBytes pastSample operatorOutcome operatorServed operatorRefusal first rising scoresFrom
+unfolding sampleBytes pastSample operatorOutcome operatorServed operatorRefusal first some rising scoresFrom somePast pastEnd unpacked bitsOf
 operator-sample = refl
 
 pub operator-room : operatorOutcome sampleBytes (replicate 1 (pos 9)) ≡ operatorReading (refusedResult 10) (replicate 1 (pos 9))

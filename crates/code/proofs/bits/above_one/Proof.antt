@@ -1,9 +1,9 @@
--- `code::bits::above_one` meets its contract: what was found so far, or the bytes that are left, decide. Assumes nothing.
-use mathlib.Core.Path.{_≡_, refl, sym, ap, _∙_}
-use mathlib.Core.Bool.{Bool, _||_, or-assoc, or-false}
-use Prim.Native.Nat.{_+_, _-_, _≤_}
+-- `code::bits::above_one` meets its contract: what is left to look at decides. Assumes nothing.
+use mathlib.Core.Path.{_≡_, refl, sym, _∙_}
+use mathlib.Core.Bool.{true, false}
+use Prim.Native.Nat.{_-_, _≤_}
 use native.Mathlib.Omega.{arith}
-use borrow.Author.Needs.{needs}
+use borrow.Author.Tests.{lt-ltb, le-ltb}
 use lib.Dec.{ltb}
 use lib.ListN.{length, drop, getD}
 use Rattle.spec.specs.Faults.{some}
@@ -12,19 +12,22 @@ use Rattle.code.proofs.bits.above_one.Statement.{statement}
 use Rattle.code.proofs.bits.above_one.Tie as tie
 
 abbrev Inv-loop : tie.InvT-loop
-Inv-loop s found₀ i₀ found i = (i ≤ length s) × (some (ltb 1) s ≡ (found || some (ltb 1) (drop i s)))
+Inv-loop s i₀ i = (i ≤ length s) × (some (ltb 1) s ≡ some (ltb 1) (drop i s))
 
 abbrev μ-loop : tie.MeasureT-loop
-μ-loop s found₀ i₀ found i = length s - i
+μ-loop s i₀ i = length s - i
 
 loop-holds : tie.Need-loop-holds Inv-loop μ-loop
 loop-holds c = (omega arith, refl)
 
-shared-slice-read-or-above : tie.Need-shared-slice-read-or-above Inv-loop μ-loop
-shared-slice-read-or-above c = search needs
+shared-slice-read-if1 : tie.Need-shared-slice-read-if1 Inv-loop μ-loop
+shared-slice-read-if1 c = omega arith
 
-or-above-requires : tie.Need-or-above-requires Inv-loop μ-loop
-or-above-requires c κs = search needs
+returns : tie.Need-returns Inv-loop μ-loop
+returns c =
+    let l = c .before .before .before in
+    let s = l .before .args .s .now in
+    sym (l .loop .inv .1 ∙ some-at (ltb 1) 0 s (l .loop .i) true (c .before .before .loop-test .taken) (sym (lt-ltb 1 (getD s (l .loop .i) 0) (c .if1 .taken))))
 
 add-i : tie.Need-add-i Inv-loop μ-loop
 add-i c = omega arith
@@ -34,25 +37,15 @@ loop-less c = omega arith
 
 loop-again : tie.Need-loop-again Inv-loop μ-loop
 loop-again c =
-    let t = c .before .before in
-    let l = t .before in
-    let s = l .before .before .args .s .now in
-    let i = l .loop .i in
-    let found = l .loop .found in
-    let v : Bool = ltb 1 (getD s i 0) in
-    let rest : Bool = some (ltb 1) (drop (i + 1) s) in (
-      omega arith,
-      l .loop .inv .1
-          ∙ ap (λ (b : Bool). found || b) (some-at (ltb 1) 0 s i v (t .loop-test .taken) refl)
-          ∙ sym (or-assoc found v rest)
-          ∙ ap (λ (b : Bool). b || rest) (sym (c .or-above .ensures)),
-    )
+    let l = c .before .before .before in
+    let s = l .before .args .s .now in
+    (omega arith, l .loop .inv .1 ∙ some-at (ltb 1) 0 s (l .loop .i) false (c .before .before .loop-test .taken) (sym (le-ltb 1 (getD s (l .loop .i) 0) (c .if1 .left))))
 
-returns : tie.Need-returns Inv-loop μ-loop
-returns c =
+returns-2 : tie.Need-returns-2 Inv-loop μ-loop
+returns-2 c =
     let l = c .before in
-    let s = l .before .before .args .s .now in
-    sym (l .loop .inv .1 ∙ ap (λ (b : Bool). l .loop .found || b) (some-end (ltb 1) s (l .loop .i) (c .loop-test .left)) ∙ or-false (l .loop .found))
+    let s = l .before .args .s .now in
+    sym (l .loop .inv .1 ∙ some-end (ltb 1) s (l .loop .i) (c .loop-test .left))
 
 pub above-one-spec : {M : Type 1} → statement M
 above-one-spec =
@@ -61,9 +54,9 @@ above-one-spec =
     Inv-loop
     μ-loop
     loop-holds
-    shared-slice-read-or-above
-    or-above-requires
+    shared-slice-read-if1
+    returns
     add-i
     loop-less
     loop-again
-    returns)
+    returns-2)

@@ -1,12 +1,12 @@
 -- `packed_rows::unpacking::put_bits` meets its contract: what is left to write completes the bits. Assumes nothing.
-use mathlib.Core.Path.{_≡_, refl, ap}
-use mathlib.Core.List.{List, [], _∷_}
-use Prim.Native.Nat.{ℕ, suc, _+_, _-_, _/_, _%_, _≤_, _<_}
+use mathlib.Core.Path.{_≡_, refl}
+use mathlib.Core.List.{List}
+use Prim.Native.Nat.{ℕ, _+_, _-_, _≤_}
 use native.Mathlib.Omega.{arith}
 use borrow.Author.Needs.{needs}
 use lib.ListN.{length}
 use Rattle.spec.specs.Bits.{bitsOf}
-use Rattle.place.specs.Put.{Left, all-left, less-left, none-left, put-same}
+use Rattle.place.specs.Put.{Left, all-left, less-left, none-left}
 use Rattle.packed_rows.specs.Turns.{bits-turn, bits-done}
 use Rattle.packed_rows.proofs.unpacking.put_bits.Statement.{statement}
 use Rattle.packed_rows.proofs.unpacking.put_bits.Tie as tie

@@ -1,12 +1,11 @@
 -- `packed_rows::unpacking::put_unpacked` meets its contract: the bits of the bytes that are left complete those of all. Assumes nothing.
-use mathlib.Core.Path.{_≡_, refl, ap, _∙_}
-use mathlib.Core.List.{List, [], _∷_, _++_}
-use Prim.Native.Nat.{ℕ, _+_, _-_, _*_, _≤_}
+use mathlib.Core.Path.{_≡_, refl, ap}
+use Prim.Native.Nat.{_+_, _-_, _≤_}
 use native.Mathlib.Omega.{arith}
 use borrow.Author.Needs.{needs}
 use lib.ListN.{length, drop, getD, length-append}
 use Rattle.spec.specs.Bits.{bitsOf}
-use Rattle.place.specs.Put.{Left, all-left, less-left, none-left, put-same}
+use Rattle.place.specs.Put.{Left, all-left, less-left, none-left}
 use Rattle.laws.specs.MapBits.{length-bitsOf}
 use Rattle.laws.specs.PackedRows.{bitsOfEach}
 use Rattle.packed_rows.specs.Turns.{bytes-turn, bytes-done}

@@ -6,7 +6,6 @@ use native.Mathlib.Omega.{arith}
 use borrow.Author.Needs.{needs}
 use lib.ListN.{length, take, drop, length-drop}
 use lib.Seq.{take-all}
-use Rattle.spec.specs.Record.{exponent}
 use Rattle.spec.specs.ResultRecord.{packedPart, resultInputs}
 use Rattle.place.specs.Put.{put-same}
 use Rattle.laws.specs.PackedRows.{bitsOfEach}

@@ -7,7 +7,7 @@ use borrow.Author.Needs.{needs}
 use lib.ListN.{length}
 use Rattle.spec.specs.Code.{mapBytes}
 use Rattle.spec.specs.Record.{fields}
-use Rattle.spec.specs.ResultRecord.{scoresAt, rowCount, resultEnd}
+use Rattle.spec.specs.ResultRecord.{scoresAt, resultEnd}
 use Rattle.laws.specs.FirstFault.{here, differ}
 use Rattle.result_refusals.specs.Shape.{Headed}
 use Rattle.result_refusals.proofs.Answers.{refused, located}

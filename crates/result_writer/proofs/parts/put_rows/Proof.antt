@@ -1,6 +1,6 @@
 -- `result_writer::parts::put_rows` meets its contract: rows of four positions, or of whole bytes. Assumes nothing.
 use mathlib.Core.Path.{_≡_, sym, ap, _∙_}
-use Prim.Native.Nat.{ℕ, _*_, _^_, _≤_}
+use Prim.Native.Nat.{ℕ, _*_, _^_}
 use native.Mathlib.Nat.{mul-assoc, mul-comm}
 use native.Mathlib.Omega.{arith}
 use lib.ListN.{length}

@@ -7,11 +7,10 @@ use Prim.Native.Nat.{ℕ, _*_, _^_}
 use lib.Dec.{eqb}
 use lib.IntN.{ℤ}
 use lib.ListN.{length, drop}
-use Rattle.spec.specs.Faults.{Fault, first}
+use Rattle.spec.specs.Faults.{Fault}
 use Rattle.spec.specs.ResultWriter.{Result, resultOf, size}
-use Rattle.laws.specs.FirstFault.{First, none, here, later, is-first, of-first, below, above, inside, differ, same}
+use Rattle.laws.specs.FirstFault.{First, none, here, later, is-first, below, above, inside, differ, same}
 use Rattle.laws.specs.ResultWriting.{resultGivenFaults}
-use Rattle.code.specs.Given.{bitFaults}
 use borrow.Author.Needs.{needs}
 use Rattle.result_writer.proofs.refusals.given_refusal.Statement.{statement}
 use Rattle.result_writer.proofs.refusals.given_refusal.Tie as tie
@@ -43,16 +42,22 @@ not-one-a-row r x = by-inputs (not (eqb (length (r .inputs)) (r .rows * size r))
     by-inputs true e = here e
     by-inputs false e = later e (here (differ (length (r .scores)) (r .rows) x))
 
--- scores that are: the inputs decide
-one-a-row : (r : Result) → length (r .scores) ≡ r .rows → {k : ℕ} → First (bitFaults (r .rows * size r) (r .inputs)) k → First (drop 2 (resultGivenFaults r)) k
-one-a-row r e (here t) = here t
-one-a-row r e (later t f) = later t (later (same (length (r .scores)) (r .rows) e) f)
-
 -- the bits of all rows
 cells : (c : tie.After-times) → let s = start (c .before .before .before .before .before .before) in c .times .result ≡ s .args .rows * 2 ^ s .args .m
 cells c =
     let s = start (c .before .before .before .before .before .before) in
     c .times .ensures .0 ∙ ap (λ (n : ℕ). s .args .rows * n) (c .before .size .ensures .0)
+
+-- past both lengths
+past4 : {k : ℕ} (frame : ℕ) (ceiling : ℤ) (c : tie.Else6) → let s = start (c .before .before .before .before .before .before .before) in
+    First (from 4 s frame ceiling) k → First (from 0 s frame ceiling) k
+past4 frame ceiling c f =
+    let t = c .before in
+    let e = t .before .before in
+    let s = start (e .before .before .before .before) in
+    past2 frame ceiling (e .before)
+    (later (same (length (s .args .inputs .now)) (s .args .rows * 2 ^ s .args .m) (c .if6 .left ∙ cells t))
+    (later (same (length (s .args .scores .now)) (s .args .rows) (e .if5 .left)) f))
 
 returns : tie.Need-returns
 returns c = λ frame. λ ceiling. let s = c .before .before in is-first (from 0 s frame ceiling) 1 (here (below 2 10 (s .args .m) (c .if1 .taken)))
@@ -81,18 +86,31 @@ size-requires c κs = search needs
 times-requires : tie.Need-times-requires
 times-requires c κs = search needs
 
-bit-refusal-requires : tie.Need-bit-refusal-requires
-bit-refusal-requires c κs = search needs
-
 returns-6 : tie.Need-returns-6
 returns-6 c = λ frame. λ ceiling.
     let t = c .before in
     let e = t .before .before in
     let s = start (e .before .before .before .before) in
-    let k = c .bit-refusal .result in
-    let inputs = s .args .inputs .now in
-    let bits = of-first (bitFaults (s .args .rows * 2 ^ s .args .m) inputs) k (c .bit-refusal .ensures ∙ ap (λ (n : ℕ). first (bitFaults n inputs)) (cells t)) in
-    is-first (from 0 s frame ceiling) k (past2 frame ceiling (e .before) (one-a-row (given s frame ceiling) (e .if5 .left) bits))
+    is-first (from 0 s frame ceiling) 6
+    (past2 frame ceiling (e .before)
+    (here (differ (length (s .args .inputs .now)) (s .args .rows * 2 ^ s .args .m) (λ q. c .if6 .taken (q ∙ sym (cells t))))))
+
+some-not-bit-requires : tie.Need-some-not-bit-requires
+some-not-bit-requires c κs = search needs
+
+returns-7 : tie.Need-returns-7
+returns-7 c = λ frame. λ ceiling.
+    let b = c .before in
+    let l = b .before in
+    let s = start (l .before .before .before .before .before .before .before) in
+    is-first (from 0 s frame ceiling) 11 (past4 frame ceiling l (here (sym (b .some-not-bit .ensures) ∙ c .if7 .taken)))
+
+returns-8 : tie.Need-returns-8
+returns-8 c = λ frame. λ ceiling.
+    let b = c .before in
+    let l = b .before in
+    let s = start (l .before .before .before .before .before .before .before) in
+    is-first (from 0 s frame ceiling) 0 (past4 frame ceiling l (later (sym (b .some-not-bit .ensures) ∙ c .if7 .left) none))
 
 pub given-refusal-spec : {M : Type 1} → statement M
 given-refusal-spec =
@@ -105,5 +123,7 @@ given-refusal-spec =
     returns-5
     size-requires
     times-requires
-    bit-refusal-requires
-    returns-6)
+    returns-6
+    some-not-bit-requires
+    returns-7
+    returns-8)

@@ -11,7 +11,7 @@ use Rattle.spec.specs.JobWriter.{unless}
 use Rattle.spec.specs.ResultRecord.{firstScore}
 use Rattle.spec.specs.ResultWriter.{Result, resultOf, headBytes, scoreBytes, packedRows, size, writtenResult}
 use Rattle.place.specs.Put.{then, put-same}
-use Rattle.laws.specs.ResultWriting.{length-head, length-scoreBytes, length-result, length-packedRows}
+use Rattle.laws.specs.ResultWriting.{length-scoreBytes, length-result}
 use borrow.Author.Needs.{needs}
 use Rattle.result_writer.proofs.whole.write_record.Statement.{statement}
 use Rattle.result_writer.proofs.whole.write_record.Tie as tie

@@ -1,7 +1,7 @@
 -- `run_examples::results::write_line` is safe: the scores and the inputs lent are as many as were read. Assumes nothing.
 use mathlib.Core.Path.{_≡_}
 use native.Mathlib.Omega.{arith}
-use lib.ListN.{length, take}
+use lib.ListN.{length}
 use Rattle.run_examples.proofs.Lengths.{front-length}
 use borrow.Author.Needs.{needs}
 use Rattle.run_examples.proofs.results.write_line.Statement.{statement}

@@ -1,9 +1,9 @@
--- `code::bits::or_above` meets its contract. Assumes nothing.
+-- `packed_rows::packing::or_above` meets its contract. Assumes nothing.
 use mathlib.Core.Path.{sym, ap, _∙_}
 use mathlib.Core.Bool.{Bool, _||_, or-true, or-false}
 use borrow.Author.Tests.{lt-ltb, le-ltb}
-use Rattle.code.proofs.bits.or_above.Statement.{statement}
-use Rattle.code.proofs.bits.or_above.Tie as tie
+use Rattle.packed_rows.proofs.packing.or_above.Statement.{statement}
+use Rattle.packed_rows.proofs.packing.or_above.Tie as tie
 
 returns : tie.Need-returns
 returns c = let a = c .before .args in sym (ap (λ (b : Bool). a .found || b) (lt-ltb 1 (a .x) (c .if1 .taken)) ∙ or-true (a .found))
