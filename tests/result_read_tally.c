@@ -142,7 +142,7 @@ static void tally_short(const struct result_record *r, unsigned long *met)
         unsigned faults;
     } named[SHORT_FAULTS] = {{0, FAULT_ROOM}, {1, FAULT_FIELD_MAP}, {1, FAULT_ROOM}, {2, FAULT_FIELD_MAP},
                              {2, FAULT_M}, {2, FAULT_ROOM}};
-    met[EMPTY + r->len] += r->faults == 0;
+    met[EMPTY + r->len] += r->faults == 0 && r->refusal == 13;
     for (size_t j = 0; j < SHORT_FAULTS; j++)
         shorts[j] += r->len == named[j].len && r->faults == named[j].faults;
 }

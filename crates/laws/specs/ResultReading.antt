@@ -9,7 +9,7 @@ use lib.IntN.{ℤ}
 use Rattle.spec.specs.Faults.{Fault, fault, first}
 use Rattle.spec.specs.Refusals.{roomFault}
 use Rattle.spec.specs.Record.{fields, exponent, positions}
-use Rattle.spec.specs.ResultRecord.{scoresFrom, somePast, rising, rowCount, resultEnd, resultScores, packedPart, idleFrame, idleCeiling, resultShapeFaults, resultValueFaults, operatorFaults, customerFaults, refusedResult, operatorReading, operatorRefusal, operatorServed, operatorOutcome, customerReading, customerRefusal, customerServed, customerOutcome}
+use Rattle.spec.specs.ResultRecord.{scoresFrom, somePast, rising, rowCount, resultEnd, resultScores, packedPart, zeroFrame, lowCeiling, resultShapeFaults, resultValueFaults, operatorFaults, customerFaults, refusedResult, operatorReading, operatorRefusal, operatorServed, operatorOutcome, customerReading, customerRefusal, customerServed, customerOutcome}
 use Rattle.laws.specs.FirstFault.{First, none, later, of-first, Numbered, end, next, none-before, none-after, first-before, first-after, inside-of, same-of, settled-refused, settled-served}
 
 pub length-scoresFrom : (s : List ℕ) (at n : ℕ) → length (scoresFrom s at n) ≡ n
@@ -45,8 +45,8 @@ module _ (s : List ℕ) where
   -- nor one of its values
   pub record SoundResult : Type 0 where
     pub falling : rising (resultScores s) ≡ false
-    pub frame-shown : idleFrame s ≡ false
-    pub ceiling-shown : idleCeiling s ≡ false
+    pub frame-shown : zeroFrame s ≡ false
+    pub ceiling-shown : lowCeiling s ≡ false
 
   pub sound-result : First (resultValueFaults s) 0 → SoundResult
   sound-result (later a (later b (later c none))) = record { falling = a; frame-shown = b; ceiling-shown = c }

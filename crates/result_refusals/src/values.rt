@@ -1,4 +1,4 @@
-// Refusal 22: scores that rise, and fields that stand with the value of their absence.
+// Refusal 22: scores that rise, a present frame number 0, a present ceiling that is not above the first score.
 use numbers::signed_four;
 use result_fields::Layout;
 use result_fields::ceiling_of;
@@ -10,7 +10,7 @@ ghost use lib.ListN.{length};
 ghost use lib.Signed.{ltZ};
 ghost use Rattle.spec.specs.Faults.{first};
 ghost use Rattle.spec.specs.Record.{fourAt, signed32};
-ghost use Rattle.spec.specs.ResultRecord.{scoresFrom, rising, idleFrame, idleCeiling, resultValueFaults};
+ghost use Rattle.spec.specs.ResultRecord.{scoresFrom, rising, zeroFrame, lowCeiling, resultValueFaults};
 ghost use Rattle.result_fields.specs.Laid.{Laid};
 
 // The score behind one stands above it.
@@ -38,9 +38,9 @@ fn scores_rise(bytes: &[u8], at: usize, k: usize) -> bool
     false
 }
 
-fn idle_frame(bytes: &[u8], at: Layout) -> bool
+fn zero_frame(bytes: &[u8], at: Layout) -> bool
     requires { ⌜ Laid (now bytes) at ⌝ }
-    ensures { λ r. ⌜ r ≡ idleFrame (now (bytes .entry)) ⌝ }
+    ensures { λ r. ⌜ r ≡ zeroFrame (now (bytes .entry)) ⌝ }
 {
     if at.fields % 2 == 0 {
         return false;
@@ -48,9 +48,9 @@ fn idle_frame(bytes: &[u8], at: Layout) -> bool
     frame_number(bytes, at) == 0
 }
 
-fn idle_ceiling(bytes: &[u8], at: Layout) -> bool
+fn low_ceiling(bytes: &[u8], at: Layout) -> bool
     requires { ⌜ Laid (now bytes) at ⌝ }
-    ensures { λ r. ⌜ r ≡ idleCeiling (now (bytes .entry)) ⌝ }
+    ensures { λ r. ⌜ r ≡ lowCeiling (now (bytes .entry)) ⌝ }
 {
     if at.fields / 2 % 2 == 0 {
         return false;
@@ -68,10 +68,10 @@ pub(crate) fn value_refusal(bytes: &[u8], at: Layout) -> u32
     if scores_rise(bytes, at.scores, at.rows) {
         return 22;
     }
-    if idle_frame(bytes, at) {
+    if zero_frame(bytes, at) {
         return 22;
     }
-    if idle_ceiling(bytes, at) {
+    if low_ceiling(bytes, at) {
         return 22;
     }
     0

@@ -17,7 +17,7 @@ use Rattle.spec.specs.Code.{mapBytes}
 use Rattle.spec.specs.Record.{fields, exponent, positions}
 use Rattle.spec.specs.RecordOf.{Field, absent, present, lowFirst, fieldBit, fieldBytes, thirtyTwoBits}
 use Rattle.spec.specs.Outcome.{padded}
-use Rattle.spec.specs.ResultRecord.{scoresFrom, firstScore, rising, rowsFrom, somePast, rowCount, packedAt, resultEnd, resultFrame, resultScores, resultCeiling, packedPart, resultInputs, idleFrame, idleCeiling, customerFaults, resultSays, operatorReading, operatorRefusal, operatorServed, operatorOutcome, customerReading, customerRefusal, customerServed, customerOutcome}
+use Rattle.spec.specs.ResultRecord.{scoresFrom, firstScore, rising, rowsFrom, somePast, rowCount, packedAt, resultEnd, resultFrame, resultScores, resultCeiling, packedPart, resultInputs, zeroFrame, lowCeiling, customerFaults, resultSays, operatorReading, operatorRefusal, operatorServed, operatorOutcome, customerReading, customerRefusal, customerServed, customerOutcome}
 use Rattle.spec.specs.ResultWriter.{Result, resultOf, packedRows, scoreBytes, size, frameField, ceilingField, headBytes, writtenResult, writeResultRefusal}
 use Rattle.laws.specs.FirstFault.{none, later, is-first, inside, same}
 use Rattle.laws.specs.ListCost.{All, none, more, all-append}
@@ -26,7 +26,7 @@ use Rattle.laws.specs.ResultWriting.{WritableResult, writes-result, length-scor
 use Rattle.laws.specs.WrittenForm.{value-back, field-bit}
 use Rattle.result_round_trip.specs.FourBytes.{Wide, Byte, bits-wide, first-wide, scores-back}
 use Rattle.result_round_trip.specs.PackedBits.{rows-back, rows-clean, rows-bytes}
-use Rattle.result_round_trip.specs.WrittenHead.{stands-small, frame-not-idle, signedOr, ceiling-said, ceiling-not-idle, Headed, headed}
+use Rattle.result_round_trip.specs.WrittenHead.{stands-small, frame-not-zero, signedOr, ceiling-said, ceiling-not-low, Headed, headed}
 use Rattle.result_round_trip.specs.Operator.{customer-then-operator}
 
 -- numbers of 32 bits, as arguments and slices hold them
@@ -73,14 +73,14 @@ module _ (r : Result) (w : WritableResult r) (f : Fits r) where
       ∙ ap (λ (ys : List ℤ). signedOr (firstScore ys) (ceilingField r)) scores-are
       ∙ ceiling-said head (r .ceiling) (first-wide (f .scores)) (f .ceiling)
 
-  frame-shown : idleFrame s ≡ false
-  frame-shown = ap₂ (λ (b x : ℕ). eqb b 1 && eqb x 0) (head-of .bit0) frame-is ∙ frame-not-idle (r .frame)
+  frame-shown : zeroFrame s ≡ false
+  frame-shown = ap₂ (λ (b x : ℕ). eqb b 1 && eqb x 0) (head-of .bit0) frame-is ∙ frame-not-zero (r .frame)
 
-  ceiling-shown : idleCeiling s ≡ false
+  ceiling-shown : lowCeiling s ≡ false
   ceiling-shown =
       ap₂ (λ (b : ℕ) (z : ℤ). eqb b 1 && leZ z (firstScore (resultScores s))) (head-of .bit1) ceiling-is
       ∙ ap (λ (ys : List ℤ). eqb (fieldBit (ceilingField r)) 1 && leZ (r .ceiling) (firstScore ys)) scores-are
-      ∙ ceiling-not-idle head (r .ceiling) (w .not-below)
+      ∙ ceiling-not-low head (r .ceiling) (w .not-below)
 
   -- where its packed rows begin, and where it ends
   packed-is : packedPart s ≡ rows

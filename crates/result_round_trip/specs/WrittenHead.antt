@@ -26,8 +26,8 @@ stands-small absence x h = go (eqb x absence)
     go false = h
 
 -- a frame number that stands is not 0
-pub frame-not-idle : (x : ℕ) → (eqb (fieldBit (unless 0 x)) 1 && eqb x 0) ≡ false
-frame-not-idle x = go (eqb x 0) refl
+pub frame-not-zero : (x : ℕ) → (eqb (fieldBit (unless 0 x)) 1 && eqb x 0) ≡ false
+frame-not-zero x = go (eqb x 0) refl
   where
     go : (b : Bool) → eqb x 0 ≡ b → (eqb (fieldBit (cond b absent (present x))) 1 && b) ≡ false
     go true e = refl
@@ -50,8 +50,8 @@ module _ (y z : ℤ) where
       go false e = wide-back z k
 
   -- a ceiling that stands is above the first score
-  pub ceiling-not-idle : ltZ z y ≡ false → (eqb (fieldBit shown) 1 && leZ z y) ≡ false
-  ceiling-not-idle n = go (eqb (thirtyTwoBits z) (thirtyTwoBits y)) refl
+  pub ceiling-not-low : ltZ z y ≡ false → (eqb (fieldBit shown) 1 && leZ z y) ≡ false
+  ceiling-not-low n = go (eqb (thirtyTwoBits z) (thirtyTwoBits y)) refl
     where
       go : (b : Bool) → eqb (thirtyTwoBits z) (thirtyTwoBits y) ≡ b
           → (eqb (fieldBit (cond b absent (present (thirtyTwoBits z)))) 1 && leZ z y) ≡ false

@@ -83,14 +83,14 @@ module _ (s : List ℕ) where
       ∷ []
 
   -- then 22: rising scores, a present frame number 0, a present ceiling that is not above the first score
-  abbrev pub idleFrame : Bool
-  idleFrame = eqb (fields s % 2) 1 && eqb resultFrame 0
+  abbrev pub zeroFrame : Bool
+  zeroFrame = eqb (fields s % 2) 1 && eqb resultFrame 0
 
-  abbrev pub idleCeiling : Bool
-  idleCeiling = eqb (fields s / 2 % 2) 1 && leZ resultCeiling (firstScore resultScores)
+  abbrev pub lowCeiling : Bool
+  lowCeiling = eqb (fields s / 2 % 2) 1 && leZ resultCeiling (firstScore resultScores)
 
   abbrev pub resultValueFaults : List Fault
-  resultValueFaults = fault 22 (rising resultScores) ∷ fault 22 idleFrame ∷ fault 22 idleCeiling ∷ []
+  resultValueFaults = fault 22 (rising resultScores) ∷ fault 22 zeroFrame ∷ fault 22 lowCeiling ∷ []
 
   -- then 10, by how many places are lent, and for the customer 21, a packed bit past n
   abbrev pub operatorFaults : ℕ → List Fault

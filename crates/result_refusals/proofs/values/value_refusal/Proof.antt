@@ -7,7 +7,7 @@ use borrow.Author.Needs.{needs}
 use Rattle.result_refusals.proofs.values.value_refusal.Statement.{statement}
 use Rattle.result_refusals.proofs.values.value_refusal.Tie as tie
 use mathlib.Core.Bool.{Bool, true, false}
-use Rattle.spec.specs.ResultRecord.{scoresFrom, rising, resultScores, idleFrame, idleCeiling, resultValueFaults}
+use Rattle.spec.specs.ResultRecord.{scoresFrom, rising, resultScores, zeroFrame, lowCeiling, resultValueFaults}
 use Rattle.laws.specs.FirstFault.{none, here, later, is-first}
 
 abbrev start : tie.After-scores-rise → tie.Start
@@ -21,11 +21,11 @@ rose : (c : tie.After-scores-rise) (b : Bool) → c .scores-rise .result ≡ b �
 rose c b e =
     sym (ap₂ (λ (a k : ℕ). rising (scoresFrom (given c) a k)) (start c .pre .scores-begin) (start c .pre .rows-are)) ∙ sym (c .scores-rise .ensures) ∙ e
 
-idle : (c : tie.After-idle-frame) (b : Bool) → c .idle-frame .result ≡ b → idleFrame (given (c .before .before)) ≡ b
-idle c b e = sym (c .idle-frame .ensures) ∙ e
+frame-zero : (c : tie.After-zero-frame) (b : Bool) → c .zero-frame .result ≡ b → zeroFrame (given (c .before .before)) ≡ b
+frame-zero c b e = sym (c .zero-frame .ensures) ∙ e
 
-idle2 : (c : tie.After-idle-ceiling) (b : Bool) → c .idle-ceiling .result ≡ b → idleCeiling (given (c .before .before .before .before)) ≡ b
-idle2 c b e = sym (c .idle-ceiling .ensures) ∙ e
+ceiling-low : (c : tie.After-low-ceiling) (b : Bool) → c .low-ceiling .result ≡ b → lowCeiling (given (c .before .before .before .before)) ≡ b
+ceiling-low c b e = sym (c .low-ceiling .ensures) ∙ e
 
 scores-rise-requires : tie.Need-scores-rise-requires
 scores-rise-requires c κs =
@@ -38,17 +38,17 @@ scores-rise-requires c κs =
 returns : tie.Need-returns
 returns c = is-first (resultValueFaults (given (c .before))) 22 (here (rose (c .before) true (c .if1 .taken)))
 
-idle-frame-requires : tie.Need-idle-frame-requires
-idle-frame-requires c κs = search needs
+zero-frame-requires : tie.Need-zero-frame-requires
+zero-frame-requires c κs = search needs
 
 returns-2 : tie.Need-returns-2
 returns-2 c =
     let a = c .before in
     let e = a .before in
-    is-first (resultValueFaults (given (e .before))) 22 (later (rose (e .before) false (e .if1 .left)) (here (idle a true (c .if2 .taken))))
+    is-first (resultValueFaults (given (e .before))) 22 (later (rose (e .before) false (e .if1 .left)) (here (frame-zero a true (c .if2 .taken))))
 
-idle-ceiling-requires : tie.Need-idle-ceiling-requires
-idle-ceiling-requires c κs = search needs
+low-ceiling-requires : tie.Need-low-ceiling-requires
+low-ceiling-requires c κs = search needs
 
 returns-3 : tie.Need-returns-3
 returns-3 c =
@@ -57,7 +57,7 @@ returns-3 c =
     let a = d .before in
     let e = a .before in
     is-first (resultValueFaults (given (e .before))) 22
-    (later (rose (e .before) false (e .if1 .left)) (later (idle a false (d .if2 .left)) (here (idle2 z true (c .if3 .taken)))))
+    (later (rose (e .before) false (e .if1 .left)) (later (frame-zero a false (d .if2 .left)) (here (ceiling-low z true (c .if3 .taken)))))
 
 returns-4 : tie.Need-returns-4
 returns-4 c =
@@ -66,7 +66,7 @@ returns-4 c =
     let a = d .before in
     let e = a .before in
     is-first (resultValueFaults (given (e .before))) 0
-    (later (rose (e .before) false (e .if1 .left)) (later (idle a false (d .if2 .left)) (later (idle2 z false (c .if3 .left)) none)))
+    (later (rose (e .before) false (e .if1 .left)) (later (frame-zero a false (d .if2 .left)) (later (ceiling-low z false (c .if3 .left)) none)))
 
 pub value-refusal-spec : {M : Type 1} → statement M
 value-refusal-spec =
@@ -74,8 +74,8 @@ value-refusal-spec =
     (tie.spec
     scores-rise-requires
     returns
-    idle-frame-requires
+    zero-frame-requires
     returns-2
-    idle-ceiling-requires
+    low-ceiling-requires
     returns-3
     returns-4)

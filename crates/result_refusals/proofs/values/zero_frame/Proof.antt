@@ -1,4 +1,4 @@
--- `result_refusals::values::idle_frame` meets its contract. Assumes nothing.
+-- `result_refusals::values::zero_frame` meets its contract. Assumes nothing.
 use mathlib.Core.Path.{_≡_, sym, ap, ap₂}
 use mathlib.Core.Bool.{Bool, _&&_}
 use Prim.Native.Nat.{ℕ, _%_}
@@ -8,8 +8,8 @@ use borrow.Author.Tests.{eq-eqb, ne-eqb}
 use lib.Dec.{eqb}
 use Rattle.spec.specs.Record.{fields}
 use Rattle.spec.specs.ResultRecord.{resultFrame}
-use Rattle.result_refusals.proofs.values.idle_frame.Statement.{statement}
-use Rattle.result_refusals.proofs.values.idle_frame.Tie as tie
+use Rattle.result_refusals.proofs.values.zero_frame.Statement.{statement}
+use Rattle.result_refusals.proofs.values.zero_frame.Tie as tie
 
 -- the bit of the field, in the layout and in the record
 bit : (c : tie.Start) → c .args .at .fields % 2 ≡ fields (c .args .bytes .now) % 2
@@ -33,5 +33,5 @@ returns-2 c =
     let one = eq-eqb (fields b % 2) 1 (omega (arith, bit s, e .if1 .left)) in
     sym (ap₂ (λ (t : Bool) (x : ℕ). t && eqb x 0) one (sym (c .frame-number .ensures)))
 
-pub idle-frame-spec : {M : Type 1} → statement M
-idle-frame-spec = tie.close (tie.spec returns frame-number-requires returns-2)
+pub zero-frame-spec : {M : Type 1} → statement M
+zero-frame-spec = tie.close (tie.spec returns frame-number-requires returns-2)

@@ -1,4 +1,4 @@
--- `result_refusals::values::idle_ceiling` meets its contract. Assumes nothing.
+-- `result_refusals::values::low_ceiling` meets its contract. Assumes nothing.
 use mathlib.Core.Path.{_≡_, sym, ap, ap₂, _∙_}
 use mathlib.Core.Bool.{Bool, _&&_}
 use Prim.Native.Nat.{ℕ, _/_, _%_}
@@ -10,8 +10,8 @@ use mir.Syntax.{w32}
 use mir.ValLaws.{toZ-ofZ}
 use Rattle.spec.specs.Record.{fields}
 use Rattle.spec.specs.ResultRecord.{firstScore, resultScores, resultCeiling}
-use Rattle.result_refusals.proofs.values.idle_ceiling.Statement.{statement}
-use Rattle.result_refusals.proofs.values.idle_ceiling.Tie as tie
+use Rattle.result_refusals.proofs.values.low_ceiling.Statement.{statement}
+use Rattle.result_refusals.proofs.values.low_ceiling.Tie as tie
 
 -- the bit of the field, in the layout and in the record
 bit : (c : tie.Start) → c .args .at .fields / 2 % 2 ≡ fields (c .args .bytes .now) / 2 % 2
@@ -43,5 +43,5 @@ returns-2 c =
     (toZ-ofZ w32 (z .result) (record { sfits = z .ok }) ∙ z .ensures)
     ∙ sym (ap (λ (t : Bool). t && leZ (resultCeiling b) (firstScore (resultScores b))) one)
 
-pub idle-ceiling-spec : {M : Type 1} → statement M
-idle-ceiling-spec = tie.close (tie.spec returns ceiling-of-requires first-score-requires returns-2)
+pub low-ceiling-spec : {M : Type 1} → statement M
+low-ceiling-spec = tie.close (tie.spec returns ceiling-of-requires first-score-requires returns-2)
