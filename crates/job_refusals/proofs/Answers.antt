@@ -7,9 +7,8 @@ use native.Mathlib.Omega.{arith}
 use borrow.Author.Tests.{lt-ltb, le-ltb}
 use lib.Dec.{ltb}
 use lib.ListN.{length}
-use Rattle.spec.specs.Faults.{Fault}
 use Rattle.spec.specs.Record.{twoAt, fields, positions, countAt, pairsAt, pairCount, softAt, shapeFaults}
-use Rattle.laws.specs.FirstFault.{First, none, here, later, is-first, of-first, differ, same}
+use Rattle.laws.specs.FirstFault.{First, none, here, later, is-first, first-through, differ, same}
 use Rattle.job_fields.specs.declared.layout.Layout.{Layout}
 use Rattle.job_fields.specs.Laid.{Laid}
 use Rattle.laws.specs.Optional.{if-absent, if-present}
@@ -18,9 +17,6 @@ use Rattle.job_refusals.specs.declared.shape.Located.{Located}
 use Rattle.job_refusals.specs.declared.shape.Located.the-variants.{At, Refused}
 
 module _ (s : List ℕ) where
-  pub refused : {fs : List Fault} {k : ℕ} → First fs k → 0 < k → Found s fs (Refused k)
-  refused {fs} {k} f h = (is-first fs k f, λ q. omega (arith, q))
-
   pub located : {at : Layout} → Laid s at → Found s (lengthFaults s) (At at)
   located w =
       let whole = w .shaped .whole in (
@@ -32,8 +28,8 @@ module _ (s : List ℕ) where
 
   -- an answer by the last conditions is one by all, once those before them are passed
   pub passed : ((k : ℕ) → First (lengthFaults s) k → First (shapeFaults s) k) → (r : Located) → Found s (lengthFaults s) r → Found s (shapeFaults s) r
-  passed f (At at) (w, e) = (w, is-first (shapeFaults s) 0 (f 0 (of-first (lengthFaults s) 0 e)))
-  passed f (Refused k) (e, x) = (is-first (shapeFaults s) k (f k (of-first (lengthFaults s) k e)), x)
+  passed f (At at) (w, e) = (w, first-through (f 0) e)
+  passed f (Refused k) (e, x) = (first-through (f k) e, x)
 
   -- a record without pairs that is not as long as its fields need: 13, whether or not it ends before the soft values
   module _ (e : fields s / 8 % 2 ≡ 0) where

@@ -8,7 +8,7 @@ use lib.Dec.{ltb, eqb}
 use lib.ListN.{length}
 use Rattle.spec.specs.Faults.{Fault, fault, first}
 use Rattle.spec.specs.Record.{fields, exponent, positions, countAt, pairsAt, pairCount, softAt, shapeFaults}
-use Rattle.laws.specs.FirstFault.{First, none, later, Numbered, end, next, inside-of, same-of}
+use Rattle.laws.specs.FirstFault.{First, Refuses, none, later, Numbered, end, next, inside-of, same-of}
 use Rattle.job_fields.specs.Laid.{Shaped, Laid}
 use Rattle.job_refusals.specs.declared.shape.Located.{Located}
 use Rattle.job_refusals.specs.declared.shape.Located.the-variants.{At, Refused}
@@ -40,7 +40,7 @@ module _ (s : List ℕ) where
   -- an answer: where the parts lie, if none of the conditions applies, or the number of the first that does
   abbrev pub Found : List Fault → Located → Type 0
   Found fs (At at) = Laid s at × (0 ≡ first fs)
-  Found fs (Refused k) = (k ≡ first fs) × (k ≡ 0 → ⊥)
+  Found fs (Refused k) = Refuses fs k
 
   -- a record that no condition applies to, and the numbers of all
   pub shaped-of : First (shapeFaults s) 0 → Shaped s

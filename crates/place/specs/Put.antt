@@ -1,7 +1,7 @@
 -- Bytes written into a buffer at a place.
 use mathlib.Core.Path.{_≡_, refl, sym, ap, ap₂, subst, _∙_}
 use mathlib.Core.List.{List, [], _∷_, _++_}
-use Prim.Native.Nat.{ℕ, suc, _+_, _≤_}
+use Prim.Native.Nat.{ℕ, suc, _+_, _-_, _≤_}
 use native.Mathlib.Numerals.{add-one}
 use native.Mathlib.Omega.{arith}
 use lib.ListN.{length, take, drop, set, length-append}
@@ -68,6 +68,12 @@ pub record Left (at : ℕ) (xs t : List ℕ) (next : ℕ) (ys u : List ℕ) : Ty
 
 pub all-left : (at : ℕ) (xs t : List ℕ) → Left at xs t at xs t
 all-left at xs t = record { place = refl; bytes = refl }
+
+-- the same of what a loop counts down from n
+pub all-left-of : (f : ℕ → List ℕ) (at n : ℕ) (t : List ℕ) → Left at (f n) t at (f (n - 0)) t
+all-left-of f at n t =
+    let e : n - 0 ≡ n = omega arith in
+    rw e (all-left at (f n) t)
 
 pub less-left : {at next next′ : ℕ} {xs left ys zs t u v : List ℕ} → Left at xs t next left u → left ≡ ys ++ zs → Put next ys u next′ v → Left at xs t next′ zs v
 less-left {next = next} {left = left} {ys = ys} {zs = zs} {u = u} l e p = record {

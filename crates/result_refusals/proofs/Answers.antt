@@ -1,11 +1,9 @@
 -- What the tests of a record's shape say of its answer. Assumes nothing.
 use mathlib.Core.List.{List}
-use Prim.Native.Nat.{ℕ, _<_}
-use native.Mathlib.Omega.{arith}
+use Prim.Native.Nat.{ℕ}
 use lib.ListN.{length}
-use Rattle.spec.specs.Faults.{Fault}
 use Rattle.spec.specs.ResultRecord.{resultEnd, resultShapeFaults}
-use Rattle.laws.specs.FirstFault.{First, none, later, is-first, of-first, same}
+use Rattle.laws.specs.FirstFault.{First, none, later, is-first, first-through, same}
 use Rattle.result_fields.specs.declared.layout.Layout.{Layout}
 use Rattle.result_fields.specs.Laid.{Laid}
 use Rattle.result_refusals.specs.Shape.{lengthFaults, Found}
@@ -13,13 +11,10 @@ use Rattle.result_refusals.specs.declared.shape.Located.{Located}
 use Rattle.result_refusals.specs.declared.shape.Located.the-variants.{At, Refused}
 
 module _ (s : List ℕ) where
-  pub refused : {fs : List Fault} {k : ℕ} → First fs k → 0 < k → Found s fs (Refused k)
-  refused {fs} {k} f h = (is-first fs k f, λ q. omega (arith, q))
-
   pub located : {at : Layout} → Laid s at → Found s (lengthFaults s) (At at)
   located w = (w, is-first (lengthFaults s) 0 (later (same (length s) (resultEnd s) (w .shaped .ends)) none))
 
   -- an answer by the last condition is one by all, once those before it are passed
   pub passed : ((k : ℕ) → First (lengthFaults s) k → First (resultShapeFaults s) k) → (r : Located) → Found s (lengthFaults s) r → Found s (resultShapeFaults s) r
-  passed f (At at) (w, e) = (w, is-first (resultShapeFaults s) 0 (f 0 (of-first (lengthFaults s) 0 e)))
-  passed f (Refused k) (e, x) = (is-first (resultShapeFaults s) k (f k (of-first (lengthFaults s) k e)), x)
+  passed f (At at) (w, e) = (w, first-through (f 0) e)
+  passed f (Refused k) (e, x) = (first-through (f k) e, x)

@@ -8,6 +8,7 @@ use lib.ListN.{length}
 use Rattle.spec.specs.Faults.{Fault, fault, first}
 use Rattle.spec.specs.Record.{fields, exponent}
 use Rattle.spec.specs.ResultRecord.{rowCount, resultEnd}
+use Rattle.laws.specs.FirstFault.{Refuses}
 use Rattle.result_fields.specs.Laid.{Laid}
 use Rattle.result_refusals.specs.declared.shape.Located.{Located}
 use Rattle.result_refusals.specs.declared.shape.Located.the-variants.{At, Refused}
@@ -32,4 +33,4 @@ module _ (s : List ℕ) where
   -- an answer: where the parts lie, if none of the conditions applies, or the number of the first that does
   abbrev pub Found : List Fault → Located → Type 0
   Found fs (At at) = Laid s at × (0 ≡ first fs)
-  Found fs (Refused k) = (k ≡ first fs) × (k ≡ 0 → ⊥)
+  Found fs (Refused k) = Refuses fs k

@@ -1,5 +1,5 @@
 -- A list with one value from a place to its end, and the laws of a loop that writes it so, over any type of element. Assumes nothing.
-use mathlib.Core.Path.{_≡_, ap, ap₂, _∙_}
+use mathlib.Core.Path.{_≡_, refl, ap, ap₂, _∙_}
 use mathlib.Core.List.{List, _++_, append-nil}
 use Prim.Native.Nat.{ℕ, suc, _+_, _-_, _≤_, _<_}
 use native.Mathlib.Omega.{arith}
@@ -32,3 +32,8 @@ module _ {A : Type 0} (z : A) where
   filled-behind w s n e h =
       let l : length (w ++ drop n s) - n ≡ length s - length w = omega (arith, length-append w (drop n s), length-drop n s) in
       ap₂ (λ (a : List A) (k : ℕ). a ++ replicate k z) (take-at w (drop n s) n e) l
+
+  -- w stands at the front of u, which is as s behind it, and u is filled from there
+  pub filled-front : (w s u : List A) (n : ℕ) → u ≡ w ++ drop (length w) s → n ≡ length w → length w ≤ length s
+      → filledFrom z n u ≡ w ++ replicate (length s - length w) z
+  filled-front w s u n b e h = ap₂ (filledFrom z) e b ∙ filled-behind w s (length w) refl h

@@ -1,16 +1,16 @@
 -- `job_writer::write_job` meets its contract: refused, or the record of fields that passed their tests, and 0 behind it. Assumes nothing.
-use mathlib.Core.Path.{_≡_, sym, ap, ap₂, _∙_}
+use mathlib.Core.Path.{_≡_, sym, ap₂, _∙_}
 use mathlib.Core.Bool.{Bool}
-use mathlib.Core.List.{List, _++_}
+use mathlib.Core.List.{List}
 use Prim.Native.Nat.{ℕ, _≤_, _<_}
 use native.Mathlib.Omega.{arith}
 use borrow.Author.Needs.{needs}
-use lib.ListN.{length, drop}
+use lib.ListN.{length}
 use Rattle.spec.specs.Code.{code}
 use Rattle.spec.specs.Faults.{first}
 use Rattle.spec.specs.Outcome.{long, writing}
 use Rattle.spec.specs.JobWriter.{Fields, fieldsOf, writtenRecord, writeServed}
-use Rattle.slices.specs.Fill.{filledFrom, filled-behind}
+use Rattle.slices.specs.Fill.{filled-front}
 use Rattle.place.specs.Put.{whole}
 use Rattle.laws.specs.WriteCall.{Writable, givenFaults, given-none, given-refused, room-refused, write-accepted, write-refused, write-served}
 use Rattle.job_writer.proofs.write_job.Statement.{statement}
@@ -90,12 +90,9 @@ returns-3 c =
     let s = start (e .before) in
     let f = given s in
     let out = s .args .out .now in
-    let k = m .record-length .result in
-    let r = writtenRecord f in
     let n = measured m in
     let begun = whole (put .write-record .ensures) (omega (arith, put .write-record .ensures .place, fits l)) in
-    let front = begun .bytes ∙ ap (λ (i : ℕ). r ++ drop i out) (sym n) in
-    let bytes = fill .fill-bytes .ensures ∙ ap (filledFrom 0 k) front ∙ filled-behind 0 r out k (sym n) (omega (arith, fits l)) in
+    let bytes = fill .fill-bytes .ensures ∙ filled-front 0 (writtenRecord f) out _ (m .record-length .result) (begun .bytes) n (fits l) in
     ap₂ (λ (i : ℕ) (o : List ℕ). writing (long i) o) n bytes
     ∙ write-served f out (write-accepted f (length out) (writable e (s .args .arikan)) (fits l))
 

@@ -1,12 +1,12 @@
 -- `numbers::put_low` meets its contract: what is left to write completes the number. Assumes nothing.
 use mathlib.Core.Path.{_≡_, refl, ap}
-use mathlib.Core.List.{List, [], _∷_}
+use mathlib.Core.List.{[], _∷_}
 use Prim.Native.Nat.{ℕ, suc, _+_, _-_, _/_, _%_, _≤_, _<_}
 use native.Mathlib.Omega.{arith}
 use borrow.Author.Needs.{needs}
 use lib.ListN.{length}
 use Rattle.spec.specs.RecordOf.{lowFirst}
-use Rattle.place.specs.Put.{Left, all-left, less-left, none-left, put-same}
+use Rattle.place.specs.Put.{Left, all-left-of, less-left, none-left, put-same}
 use Rattle.numbers.proofs.put_low.Statement.{statement}
 use Rattle.numbers.proofs.put_low.Tie as tie
 
@@ -17,11 +17,6 @@ Inv-loop out₀ at count x rest₀ next₀ i₀ out rest next i =
 abbrev μ-loop : tie.MeasureT-loop
 μ-loop out₀ at count x rest₀ next₀ i₀ out rest next i = count - i
 
-nothing-yet : (at count x : ℕ) (t : List ℕ) → Left at (lowFirst count x) t at (lowFirst (count - 0) x) t
-nothing-yet at count x t =
-    let e : count - 0 ≡ count = omega arith in
-    rw e (all-left at (lowFirst count x) t)
-
 -- one byte, and those behind it
 turn : (count i x : ℕ) → i < count → lowFirst (count - i) x ≡ x % 256 ∷ lowFirst (count - (i + 1)) (x / 256)
 turn count i x h =
@@ -31,7 +26,7 @@ turn count i x h =
 loop-holds : tie.Need-loop-holds Inv-loop μ-loop
 loop-holds c =
     let a = c .before .args in
-    (omega arith, refl, omega arith, nothing-yet (a .at) (a .count) (a .x) (a .out .now))
+    (omega arith, refl, omega arith, all-left-of (λ k. lowFirst k (a .x)) (a .at) (a .count) (a .out .now))
 
 low-byte-requires : tie.Need-low-byte-requires Inv-loop μ-loop
 low-byte-requires c κs = search needs

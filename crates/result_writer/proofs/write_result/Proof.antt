@@ -1,17 +1,17 @@
 -- `result_writer::write_result` meets its contract: refused, or the record of a result that passed its tests, and 0 behind it. Assumes nothing.
 use mathlib.Core.Path.{_≡_, sym, ap, ap₂, subst, _∙_}
-use mathlib.Core.List.{List, _++_}
+use mathlib.Core.List.{List}
 use Prim.Native.Nat.{ℕ, _≤_, _<_}
 use native.Mathlib.Omega.{arith}
 use lib.IntN.{ℤ}
-use lib.ListN.{length, drop}
+use lib.ListN.{length}
 use mir.Syntax.{w32}
 use mir.Val.{toZ, ofZ}
 use mir.ValLaws.{toZ-ofZ}
 use Rattle.spec.specs.Faults.{first}
 use Rattle.spec.specs.Outcome.{long, writing}
 use Rattle.spec.specs.ResultWriter.{Result, resultOf, writtenResult, writeResultServed}
-use Rattle.slices.specs.Fill.{filledFrom, filled-behind}
+use Rattle.slices.specs.Fill.{filled-front}
 use Rattle.place.specs.Put.{whole, put-same}
 use Rattle.laws.specs.ResultWriting.{WritableResult, resultFaults, result-none, result-refused, room-refused, result-accepted, write-result-refused, write-result-served}
 use borrow.Author.Needs.{needs}
@@ -100,13 +100,10 @@ returns-3 c =
     let s = start (e .before) in
     let f = given s in
     let out = s .args .out .now in
-    let k = m .result-length .result in
-    let r = writtenResult f in
     let n = measured m in
     let written = put-same (put .write-record .ensures) (ap (λ (z : ℤ). writtenResult (givenBy s z)) (same s)) in
     let begun = whole written (omega (arith, written .place, fits l)) in
-    let front = begun .bytes ∙ ap (λ (i : ℕ). r ++ drop i out) (sym n) in
-    let bytes = fill .fill-bytes .ensures ∙ ap (filledFrom 0 k) front ∙ filled-behind 0 r out k (sym n) (omega (arith, n, fits l)) in
+    let bytes = fill .fill-bytes .ensures ∙ filled-front 0 (writtenResult f) out _ (m .result-length .result) (begun .bytes) n (fits l) in
     ap₂ (λ (i : ℕ) (o : List ℕ). writing (long i) o) n bytes ∙ write-result-served f out (result-accepted f (length out) (passed e) (fits l))
 
 pub write-result-spec : {M : Type 1} → statement M

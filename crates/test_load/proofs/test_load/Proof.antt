@@ -1,16 +1,16 @@
 -- `test_load::test_load` meets its contract: refused, or the record and the payload that are drawn, and 0 behind both. Assumes nothing.
 use mathlib.Core.Path.{_≡_, sym, ap, ap₂, _∙_}
 use mathlib.Core.Bool.{Bool}
-use mathlib.Core.List.{List, _++_}
+use mathlib.Core.List.{List}
 use Prim.Native.Nat.{ℕ, _≤_}
 use native.Mathlib.Omega.{arith}
 use borrow.Author.Needs.{needs}
-use lib.ListN.{length, take, drop}
+use lib.ListN.{length, take}
 use lib.Seq.{length-take-le}
 use Rattle.spec.specs.Code.{Code, code, payloadSize}
 use Rattle.spec.specs.Outcome.{padded}
 use Rattle.spec.specs.TestLoad.{loadFields, loadRecord, loadRefusal, loaded, loading, loadServed}
-use Rattle.slices.specs.Fill.{filledFrom, filled-behind}
+use Rattle.slices.specs.Fill.{filled-behind, filled-front}
 use Rattle.place.specs.Put.{whole}
 use Rattle.laws.specs.WrittenForm.{written-at-most}
 use Rattle.laws.specs.LoadCall.{Loads, loads, load-writable, load-refused, load-served}
@@ -133,9 +133,8 @@ returns-2 c =
     let n = w .write-load .result .length in
     let e = is-length w in
     let begun = whole (w .write-load .ensures .1) (omega (arith, e, record-fits w)) in
-    let front = begun .bytes ∙ ap (λ (i : ℕ). job w ++ drop i out) (sym e) in
     equal e (w .write-load .ensures .0)
-    (filled .fill-bytes .ensures ∙ ap (filledFrom 0 n) front ∙ filled-behind 0 (job w) out n (sym e) (omega (arith, e, record-fits w)))
+    (filled .fill-bytes .ensures ∙ filled-front 0 (job w) out _ n (begun .bytes) e (omega (arith, e, record-fits w)))
     (cleared .fill-bytes2 .ensures
     ∙ filled-behind 0 (w .write-load .last .1 .1 .1 .1 .1 .1 .1 .0) (x .payload .now) (k .payload-size .result)
     (w .write-load .kept .1 .1 .1 .1 .1 .1 .1 .0 ∙ front-long k) (k-fits k)

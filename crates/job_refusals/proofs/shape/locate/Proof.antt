@@ -8,8 +8,8 @@ use borrow.Author.Tests.{lt-ltb, le-ltb, eq-eqb, ne-eqb}
 use lib.ListN.{length, drop}
 use Rattle.spec.specs.Faults.{Fault}
 use Rattle.spec.specs.Record.{fields, exponent, shapeFaults}
-use Rattle.laws.specs.FirstFault.{First, here, later, below, above, inside}
-use Rattle.job_refusals.proofs.Answers.{refused, passed}
+use Rattle.laws.specs.FirstFault.{First, refuses, here, later, below, above, inside}
+use Rattle.job_refusals.proofs.Answers.{passed}
 use Rattle.job_refusals.proofs.shape.locate.Statement.{statement}
 use Rattle.job_refusals.proofs.shape.locate.Tie as tie
 
@@ -52,7 +52,7 @@ past4 c f =
 returns : tie.Need-returns
 returns c =
     let s = c .before .before .args .bytes .now in
-    refused s {fs = shapeFaults s} (here (eq-eqb (length s) 0 (c .if1 .taken))) (omega arith)
+    refuses {fs = shapeFaults s} (here (eq-eqb (length s) 0 (c .if1 .taken))) (omega arith)
 
 shared-slice-read-wide : tie.Need-shared-slice-read-wide
 shared-slice-read-wide c = search needs
@@ -64,12 +64,12 @@ returns-2 : tie.Need-returns-2
 returns-2 c =
     let s = at-wide (c .before) in
     let unknown : 31 < fields s = omega (arith, c .before .wide .ensures .0, c .if2 .taken) in
-    refused s {fs = shapeFaults s} (past1 (c .before .before .before) (here (lt-ltb 31 (fields s) unknown))) (omega arith)
+    refuses {fs = shapeFaults s} (past1 (c .before .before .before) (here (lt-ltb 31 (fields s) unknown))) (omega arith)
 
 returns-3 : tie.Need-returns-3
 returns-3 c =
     let s = at-wide (c .before .before) in
-    refused s {fs = shapeFaults s} (past2 (c .before) (here (eq-eqb (length s) 1 (c .if3 .taken)))) (omega arith)
+    refuses {fs = shapeFaults s} (past2 (c .before) (here (eq-eqb (length s) 1 (c .if3 .taken)))) (omega arith)
 
 shared-slice-read-wide-2 : tie.Need-shared-slice-read-wide-2
 shared-slice-read-wide-2 c = search needs
@@ -82,14 +82,14 @@ returns-4 c =
     let w = c .before in
     let s = at-wide2 w in
     let low : exponent s < 2 = omega (arith, w .wide2 .ensures .0, c .if4 .taken) in
-    refused s {fs = shapeFaults s} (past3 (w .before .before) (here (below 2 10 (exponent s) low))) (omega arith)
+    refuses {fs = shapeFaults s} (past3 (w .before .before) (here (below 2 10 (exponent s) low))) (omega arith)
 
 returns-5 : tie.Need-returns-5
 returns-5 c =
     let w = c .before .before in
     let s = at-wide2 w in
     let high : 10 < exponent s = omega (arith, w .wide2 .ensures .0, c .if5 .taken) in
-    refused s {fs = shapeFaults s} (past3 (w .before .before) (here (above 2 10 (exponent s) high))) (omega arith)
+    refuses {fs = shapeFaults s} (past3 (w .before .before) (here (above 2 10 (exponent s) high))) (omega arith)
 
 locate-parts-requires : tie.Need-locate-parts-requires
 locate-parts-requires c κs = search needs

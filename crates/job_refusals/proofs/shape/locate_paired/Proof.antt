@@ -9,9 +9,9 @@ use borrow.Author.Needs.{needs}
 use borrow.Author.Tests.{lt-ltb, ltb-true, ltb-false}
 use lib.ListN.{length}
 use Rattle.spec.specs.Record.{twoAt, fields, positions, pairsAt, pairCount, softAt, mapAt}
-use Rattle.laws.specs.FirstFault.{here, same, same-of}
+use Rattle.laws.specs.FirstFault.{refuses, here, same, same-of}
 use Rattle.job_refusals.specs.Shape.{lengthFaults}
-use Rattle.job_refusals.proofs.Answers.{refused, located, count-stands, pairs-behind, too-many, paired-wrong}
+use Rattle.job_refusals.proofs.Answers.{located, count-stands, pairs-behind, too-many, paired-wrong}
 use Rattle.job_refusals.proofs.shape.locate_paired.Statement.{statement}
 use Rattle.job_refusals.proofs.shape.locate_paired.Tie as tie
 
@@ -56,7 +56,7 @@ returns c =
     let s = c .before .before in
     let b = s .args .bytes .now in
     let short : length b < pairsAt b = omega (arith, begin s, c .if1 .taken) in
-    refused b {fs = lengthFaults b} (here (lt-ltb (length b) (pairsAt b) short)) (omega arith)
+    refuses {fs = lengthFaults b} (here (lt-ltb (length b) (pairsAt b) short)) (omega arith)
 
 two-requires : tie.Need-two-requires
 two-requires c κs = search needs
@@ -79,12 +79,12 @@ add-wrong c = search needs
 returns-2 : tie.Need-returns-2
 returns-2 c =
     let t = c .before in
-    refused (given t) (too-many (given t) (reaches t) (omega (arith, counted t, ltb-true 256 (t .two .result) (c .if2 .taken)))) (omega arith)
+    refuses (too-many (given t) (reaches t) (omega (arith, counted t, ltb-true 256 (t .two .result) (c .if2 .taken)))) (omega arith)
 
 returns-3 : tie.Need-returns-3
 returns-3 c =
     let t = c .before .before in
-    refused (given t)
+    refuses
     (paired-wrong (given t) (reaches t) (few (c .before)) (λ q. true≢false (sym (c .if3 .taken) ∙ same (length (given t)) (sum t) (q ∙ sym (needed t)))))
     (omega arith)
 

@@ -4,7 +4,8 @@ use Prim.Native.Nat.{ℕ, _+_, _*_, _/_, _%_}
 use native.Mathlib.Omega.{arith}
 use borrow.Author.Needs.{needs}
 use Rattle.spec.specs.Record.{fields, positions, countAt, mapAt}
-use Rattle.job_refusals.proofs.Answers.{refused, located, no-count, plain-wrong}
+use Rattle.laws.specs.FirstFault.{refuses}
+use Rattle.job_refusals.proofs.Answers.{located, no-count, plain-wrong}
 use Rattle.job_refusals.proofs.shape.locate_plain.Statement.{statement}
 use Rattle.job_refusals.proofs.shape.locate_plain.Tie as tie
 
@@ -25,7 +26,7 @@ returns : tie.Need-returns
 returns c =
     let s = c .before .before in
     let b = s .args .bytes .now in
-    refused b (plain-wrong b (absent s) (λ q. c .if1 .taken (q ∙ sym (needed s)))) (omega arith)
+    refuses (plain-wrong b (absent s) (λ q. c .if1 .taken (q ∙ sym (needed s)))) (omega arith)
 
 map-at-requires : tie.Need-map-at-requires
 map-at-requires c κs = search needs

@@ -1,12 +1,11 @@
 -- `packed_rows::unpacking::put_bits` meets its contract: what is left to write completes the bits. Assumes nothing.
 use mathlib.Core.Path.{_≡_, refl}
-use mathlib.Core.List.{List}
-use Prim.Native.Nat.{ℕ, _+_, _-_, _≤_}
+use Prim.Native.Nat.{_+_, _-_, _≤_}
 use native.Mathlib.Omega.{arith}
 use borrow.Author.Needs.{needs}
 use lib.ListN.{length}
 use Rattle.spec.specs.Bits.{bitsOf}
-use Rattle.place.specs.Put.{Left, all-left, less-left, none-left}
+use Rattle.place.specs.Put.{Left, all-left-of, less-left, none-left}
 use Rattle.packed_rows.specs.Turns.{bits-turn, bits-done}
 use Rattle.packed_rows.proofs.unpacking.put_bits.Statement.{statement}
 use Rattle.packed_rows.proofs.unpacking.put_bits.Tie as tie
@@ -18,15 +17,10 @@ Inv-loop out₀ at w x rest₀ next₀ i₀ out rest next i =
 abbrev μ-loop : tie.MeasureT-loop
 μ-loop out₀ at w x rest₀ next₀ i₀ out rest next i = w - i
 
-nothing-yet : (at w x : ℕ) (t : List ℕ) → Left at (bitsOf w x) t at (bitsOf (w - 0) x) t
-nothing-yet at w x t =
-    let e : w - 0 ≡ w = omega arith in
-    rw e (all-left at (bitsOf w x) t)
-
 loop-holds : tie.Need-loop-holds Inv-loop μ-loop
 loop-holds c =
     let a = c .before .args in
-    (omega arith, refl, omega arith, nothing-yet (a .at) (a .w) (a .x) (a .out .now))
+    (omega arith, refl, omega arith, all-left-of (λ k. bitsOf k (a .x)) (a .at) (a .w) (a .out .now))
 
 put-byte-requires : tie.Need-put-byte-requires Inv-loop μ-loop
 put-byte-requires c κs = omega arith

@@ -1,10 +1,9 @@
 -- `result::outputs::write_inputs` meets its contract: the rows are written, and the rest is filled. Assumes nothing.
-use mathlib.Core.Path.{refl, ap₂, _∙_}
+use mathlib.Core.Path.{_∙_}
 use native.Mathlib.Omega.{arith}
 use borrow.Author.Needs.{needs}
-use lib.ListN.{length}
 use Rattle.spec.specs.ResultRecord.{resultInputs}
-use Rattle.slices.specs.Fill.{filledFrom, filled-behind}
+use Rattle.slices.specs.Fill.{filled-front}
 use Rattle.place.specs.Put.{whole}
 use Rattle.result.proofs.outputs.write_inputs.Statement.{statement}
 use Rattle.result.proofs.outputs.write_inputs.Tie as tie
@@ -26,9 +25,7 @@ returns c =
     let b = whole (p .put-inputs .ensures .0) (p .put-inputs .ensures .1) in
     let rows = resultInputs (s .args .bytes .now) in
     let inputs = s .args .inputs .now in
-    f .fill-bytes .ensures
-    ∙ ap₂ (filledFrom 0) (b .count) (b .bytes)
-    ∙ filled-behind 0 rows inputs (length rows) refl (omega (arith, b .count, b .fits))
+    f .fill-bytes .ensures ∙ filled-front 0 rows inputs _ (p .put-inputs .result) (b .bytes) (b .count) (omega (arith, b .count, b .fits))
 
 pub write-inputs-spec : {M : Type 1} → statement M
 write-inputs-spec = tie.close (tie.spec put-inputs-requires fill-bytes-requires same-length returns)

@@ -8,9 +8,9 @@ use lib.ListN.{length}
 use Rattle.spec.specs.Code.{mapBytes}
 use Rattle.spec.specs.Record.{fields}
 use Rattle.spec.specs.ResultRecord.{scoresAt, resultEnd}
-use Rattle.laws.specs.FirstFault.{here, differ}
+use Rattle.laws.specs.FirstFault.{refuses, here, differ}
 use Rattle.result_refusals.specs.Shape.{Headed}
-use Rattle.result_refusals.proofs.Answers.{refused, located}
+use Rattle.result_refusals.proofs.Answers.{located}
 use Rattle.result_refusals.proofs.shape.locate_parts.Statement.{statement}
 use Rattle.result_refusals.proofs.shape.locate_parts.Tie as tie
 
@@ -28,7 +28,7 @@ returns c =
     let l = c .before in
     let s = l .before .before in
     let b = s .args .bytes .now in
-    refused b (here (differ (length b) (resultEnd b) (λ q. c .if1 .taken (q ∙ sym (l .length-of .ensures .0 ∙ end-is (s .pre)))))) (omega arith)
+    refuses (here (differ (length b) (resultEnd b) (λ q. c .if1 .taken (q ∙ sym (l .length-of .ensures .0 ∙ end-is (s .pre)))))) (omega arith)
 
 size-requires : tie.Need-size-requires
 size-requires c κs = let w = c .before .before .before .pre in omega (arith, w .m-is, w .high)

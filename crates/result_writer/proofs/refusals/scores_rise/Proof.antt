@@ -6,7 +6,7 @@ use borrow.Author.Needs.{needs}
 use lib.ListN.{length, drop, getD}
 use Rattle.result_writer.proofs.refusals.scores_rise.Statement.{statement}
 use Rattle.result_writer.proofs.refusals.scores_rise.Tie as tie
-use mathlib.Core.Bool.{true, false}
+use mathlib.Core.Bool.{Bool, true, false}
 use lib.IntN.{pos}
 use lib.Signed.{ltZ}
 use mir.Syntax.{w32}
@@ -41,18 +41,23 @@ shared-slice-copy-out-below-2 c = search needs
 below-requires : tie.Need-below-requires Inv-loop μ-loop
 below-requires c κs = search needs
 
-returns : tie.Need-returns Inv-loop μ-loop
-returns c =
-    let k = c .before in
+-- what the test of two neighbours says of them
+tested : (k : tie.After-below Inv-loop μ-loop) (b : Bool) → k .below .result ≡ b
+    → let l = k .before .before .before .before in
+    let ys = l .before .args .scores .now in
+    ltZ (getD ys (l .loop .i - 1) (pos 0)) (getD ys (l .loop .i) (pos 0)) ≡ b
+tested k b e =
     let q = k .before in
     let p = q .before in
-    let t = p .before in
-    let l = t .before in
+    let l = p .before .before in
     let ys = l .before .args .scores .now in
-    let i = l .loop .i in
-    let test : ltZ (getD ys (i - 1) (pos 0)) (getD ys i (pos 0)) ≡ true
-    = sym (k .below .ensures ∙ ap₂ ltZ (toZ-ofZ w32 (getD ys (i - 1) (pos 0)) (record { sfits = p .below-arg .given })) (toZ-ofZ w32 (getD ys i (pos 0)) (record { sfits = q .below-arg2 .given }))) ∙ c .if1 .taken in
-    sym (l .loop .inv .1 ∙ rise-turn ys i true (l .loop .inv .0) (t .loop-test .taken) test)
+    sym (k .below .ensures ∙ ap₂ ltZ (toZ-ofZ w32 (getD ys (l .loop .i - 1) (pos 0)) (record { sfits = p .below-arg .given })) (toZ-ofZ w32 (getD ys (l .loop .i) (pos 0)) (record { sfits = q .below-arg2 .given }))) ∙ e
+
+returns : tie.Need-returns Inv-loop μ-loop
+returns c =
+    let t = c .before .before .before .before in
+    let l = t .before in
+    sym (l .loop .inv .1 ∙ rise-turn (l .before .args .scores .now) (l .loop .i) true (l .loop .inv .0) (t .loop-test .taken) (tested (c .before) true (c .if1 .taken)))
 
 add-i : tie.Need-add-i Inv-loop μ-loop
 add-i c = search needs
@@ -62,16 +67,11 @@ loop-less c = search needs
 
 loop-again : tie.Need-loop-again Inv-loop μ-loop
 loop-again c =
-    let k = c .before in
-    let q = k .before in
-    let p = q .before in
-    let t = p .before in
-    let l = t .before in
-    let ys = l .before .args .scores .now in
-    let i = l .loop .i in
-    let test : ltZ (getD ys (i - 1) (pos 0)) (getD ys i (pos 0)) ≡ false
-    = sym (k .below .ensures ∙ ap₂ ltZ (toZ-ofZ w32 (getD ys (i - 1) (pos 0)) (record { sfits = p .below-arg .given })) (toZ-ofZ w32 (getD ys i (pos 0)) (record { sfits = q .below-arg2 .given }))) ∙ c .if1 .left in
-    (omega arith, l .loop .inv .1 ∙ rise-turn ys i false (l .loop .inv .0) (t .loop-test .taken) test)
+    let t = c .before .before .before .before in
+    let l = t .before in (
+      omega arith,
+      l .loop .inv .1 ∙ rise-turn (l .before .args .scores .now) (l .loop .i) false (l .loop .inv .0) (t .loop-test .taken) (tested (c .before) false (c .if1 .left)),
+    )
 
 returns-2 : tie.Need-returns-2 Inv-loop μ-loop
 returns-2 c =

@@ -1,6 +1,6 @@
 -- `row_text::listing::put_rows` meets its contract: writing the rows that are left completes the lines, and what is left of the slices
 -- and of the buffer is enough for them. Assumes nothing.
-use mathlib.Core.Path.{_≡_, refl, sym, ap}
+use mathlib.Core.Path.{_≡_, refl, ap}
 use mathlib.Core.List.{List}
 use Prim.Native.Nat.{ℕ, _+_, _-_, _*_, _≤_}
 use native.Mathlib.Omega.{arith}
@@ -9,7 +9,7 @@ use lib.IntN.{ℤ, pos}
 use mir.Syntax.{w32}
 use mir.ValLaws.{toZ-ofZ}
 use Rattle.row_text.specs.Output.{rowLines}
-use Rattle.place.specs.Put.{Left, all-left, less-left, none-left}
+use Rattle.place.specs.Put.{Left, all-left-of, less-left, none-left}
 use Rattle.row_text.proofs.RowTurns.{one-less, row-turn, row-put, rows-done}
 use Rattle.row_text.proofs.listing.put_rows.Statement.{statement}
 use Rattle.row_text.proofs.listing.put_rows.Tie as tie
@@ -32,12 +32,10 @@ abbrev μ-loop : tie.MeasureT-loop
 loop-holds : tie.Need-loop-holds Inv-loop μ-loop
 loop-holds c =
     let a = c .before .before .before .args in
-    let t = a .out .now in
     let lines : ℕ → List ℕ = λ k. rowLines (a .n) 0 k (a .inputs .now) (a .words .now) (a .scores .now) in
     let e : a .rows ≡ a .rows - 0 = omega arith in
-    let left : Left (a .at) (lines (a .rows)) t (a .at) (lines (a .rows - 0)) t = rw (sym e) (all-left (a .at) (lines (a .rows)) t) in
     let all : (k : ℕ) → a .rows * k ≡ (a .rows - 0) * k = λ k. ap (λ (i : ℕ). i * k) e in
-    (omega arith, omega (arith, all (a .n)), omega (arith, all (2 * a .n + 25)), refl, left)
+    (omega arith, omega (arith, all (a .n)), omega (arith, all (2 * a .n + 25)), refl, all-left-of lines (a .at) (a .rows) (a .out .now))
 
 -- what the rows from this turn's on take, k each: its own, and those behind it
 turn : (c : tie.In-loop Inv-loop μ-loop) (k : ℕ)
