@@ -5,11 +5,9 @@ use lib.ListN.{take, drop, getD}
 use lib.IntN.{ℤ, pos}
 use Rattle.text.specs.BitText.{bitText}
 use Rattle.text.specs.Decimal.{decimal, signedDecimal}
+use Rattle.text.specs.Words.{refusedWord, space, lineFeed}
 
--- `refused `, `frame `, ` rows `, ` ceiling `
-abbrev pub refusedWord : List ℕ
-refusedWord = 114 ∷ 101 ∷ 102 ∷ 117 ∷ 115 ∷ 101 ∷ 100 ∷ 32 ∷ []
-
+-- `frame `, ` rows `, ` ceiling `
 abbrev pub frameWord : List ℕ
 frameWord = 102 ∷ 114 ∷ 97 ∷ 109 ∷ 101 ∷ 32 ∷ []
 
@@ -18,12 +16,6 @@ rowsWord = 32 ∷ 114 ∷ 111 ∷ 119 ∷ 115 ∷ 32 ∷ []
 
 abbrev pub ceilingWord : List ℕ
 ceilingWord = 32 ∷ 99 ∷ 101 ∷ 105 ∷ 108 ∷ 105 ∷ 110 ∷ 103 ∷ 32 ∷ []
-
-abbrev pub space : List ℕ
-space = 32 ∷ []
-
-abbrev pub lineFeed : List ℕ
-lineFeed = 10 ∷ []
 
 -- a refusal: `refused`, one space and the number
 unfoldable pub refusedText : ℕ → List ℕ

@@ -2,6 +2,7 @@
 use place::put_byte;
 use place::put_bytes;
 use text::put_bits;
+use text::put_named;
 use text::put_number;
 use text::put_signed;
 ghost use mathlib.Core.List.{_++_};
@@ -9,18 +10,9 @@ ghost use Prim.Native.Nat.{_+_, _≤_};
 ghost use lib.ListN.{length};
 ghost use Rattle.text.specs.BitText.{bitText};
 ghost use Rattle.text.specs.Decimal.{decimal, signedDecimal};
+ghost use Rattle.text.specs.Words.{space};
 ghost use Rattle.place.specs.Put.{Put, Begins};
-ghost use Rattle.row_text.specs.Output.{ceilingWord, space, refusedText, frameLine, rowLine};
-
-// A word and a number.
-fn put_named(out: &mut [u8], at: usize, word: &[u8], x: u32) -> usize
-    requires { ⌜ at + length (now word) + 10 ≤ length (now out) ⌝ }
-    ensures { λ r. ⌜ (Put at (now (word .entry) ++ decimal x) (now (out .entry)) r (now (out .exit)))
-        × (r ≤ at + length (now (word .entry)) + 10) ⌝ }
-{
-    let next = put_bytes(out, at, word);
-    put_number(out, next, x)
-}
+ghost use Rattle.row_text.specs.Output.{ceilingWord, refusedText, frameLine, rowLine};
 
 // A line of its own: the refusal number.
 pub fn write_refused(k: u32, out: &mut [u8]) -> usize

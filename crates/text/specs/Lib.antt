@@ -1,2 +1,3 @@
 pub mod BitText
 pub mod Decimal
+pub mod Words

@@ -1,5 +1,7 @@
 // Numbers in decimal, written into a buffer from a place on. Each function returns the place behind what it wrote.
 use place::put_byte;
+use place::put_bytes;
+ghost use mathlib.Core.List.{_++_};
 ghost use mathlib.Core.Path.{_≡_};
 ghost use Prim.Native.Nat.{_+_, _≤_, _<_};
 ghost use lib.IntN.{natAbs};
@@ -23,6 +25,16 @@ pub fn put_number(out: &mut [u8], at: usize, n: u32) -> usize
     }
     let next = put_number(out, at, n / 10);
     put_byte(out, next, digit(n % 10))
+}
+
+// A word and a number.
+pub fn put_named(out: &mut [u8], at: usize, word: &[u8], n: u32) -> usize
+    requires { ⌜ at + length (now word) + 10 ≤ length (now out) ⌝ }
+    ensures { λ r. ⌜ (Put at (now (word .entry) ++ decimal n) (now (out .entry)) r (now (out .exit)))
+        × (r ≤ at + length (now (word .entry)) + 10) ⌝ }
+{
+    let next = put_bytes(out, at, word);
+    put_number(out, next, n)
 }
 
 // How far z is from 0.

@@ -3,5 +3,6 @@ mod bits;
 mod decimals;
 
 pub use bits::put_bits;
+pub use decimals::put_named;
 pub use decimals::put_number;
 pub use decimals::put_signed;

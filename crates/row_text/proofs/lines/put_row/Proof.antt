@@ -6,7 +6,8 @@ use lib.IntN.{ℤ}
 use mir.Syntax.{w32}
 use mir.ValLaws.{toZ-ofZ}
 use Rattle.text.specs.Decimal.{decimal, signedDecimal}
-use Rattle.row_text.specs.Output.{space, rowLine}
+use Rattle.text.specs.Words.{space}
+use Rattle.row_text.specs.Output.{rowLine}
 use Rattle.place.specs.Put.{then, put-same}
 use Rattle.row_text.proofs.lines.put_row.Statement.{statement}
 use Rattle.row_text.proofs.lines.put_row.Tie as tie

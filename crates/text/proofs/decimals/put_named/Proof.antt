@@ -1,8 +1,8 @@
--- `row_text::lines::put_named` meets its contract: the word, and the number behind it. Assumes nothing.
+-- `text::decimals::put_named` meets its contract: the word, and the number behind it. Assumes nothing.
 use native.Mathlib.Omega.{arith}
 use Rattle.place.specs.Put.{then}
-use Rattle.row_text.proofs.lines.put_named.Statement.{statement}
-use Rattle.row_text.proofs.lines.put_named.Tie as tie
+use Rattle.text.proofs.decimals.put_named.Statement.{statement}
+use Rattle.text.proofs.decimals.put_named.Tie as tie
 
 put-bytes-requires : tie.Need-put-bytes-requires
 put-bytes-requires c κs = omega arith
