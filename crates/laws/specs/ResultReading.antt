@@ -9,7 +9,7 @@ use lib.IntN.{ℤ}
 use Rattle.spec.specs.Faults.{Fault, fault, first}
 use Rattle.spec.specs.Refusals.{roomFault}
 use Rattle.spec.specs.Record.{fields, exponent, positions}
-use Rattle.spec.specs.ResultRecord.{scoresFrom, somePast, rising, rowCount, resultEnd, resultScores, packedPart, zeroFrame, lowCeiling, resultShapeFaults, resultValueFaults, operatorFaults, customerFaults, refusedResult, operatorReading, operatorRefusal, operatorServed, operatorOutcome, customerReading, customerRefusal, customerServed, customerOutcome}
+use Rattle.spec.specs.ResultRecord.{scoresFrom, somePast, rising, rowCount, resultEnd, resultScores, packedPart, zeroFrame, lowCeiling, resultHeadFaults, resultShapeFaults, resultValueFaults, operatorFaults, customerFaults, refusedResult, operatorReading, operatorRefusal, operatorServed, operatorOutcome, customerReading, customerRefusal, customerServed, customerOutcome}
 use Rattle.laws.specs.FirstFault.{First, none, later, of-first, Numbered, end, next, none-before, none-after, first-before, first-after, inside-of, same-of, settled-refused, settled-served}
 
 pub length-scoresFrom : (s : List ℕ) (at n : ℕ) → length (scoresFrom s at n) ≡ n
@@ -50,6 +50,9 @@ module _ (s : List ℕ) where
 
   pub sound-result : First (resultValueFaults s) 0 → SoundResult
   sound-result (later a (later b (later c none))) = record { falling = a; frame-shown = b; ceiling-shown = c }
+
+  abbrev pub result-head-numbers : Numbered (resultHeadFaults s)
+  result-head-numbers = next (next (next (next (next end))))
 
   abbrev pub result-shape-numbers : Numbered (resultShapeFaults s)
   result-shape-numbers = next (next (next (next (next (next end)))))

@@ -1,7 +1,10 @@
 // What a result record is refused for, decided before anything is written.
+mod head;
 mod shape;
 mod values;
 
+pub use head::Head;
+pub use head::read_head;
 use packed_rows::some_high;
 use result_fields::Layout;
 pub use shape::Located;

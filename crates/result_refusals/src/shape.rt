@@ -1,11 +1,12 @@
 // Where the parts of a record lie, or what its shape is refused for: its length, its map of fields, m and the row count.
+use crate::head::Head;
+use crate::head::read_head;
 use code::size;
-use numbers::wide;
 use result_fields::Layout;
 use result_fields::length_of;
 use result_fields::scores_at;
-ghost use Rattle.spec.specs.ResultRecord.{resultShapeFaults};
-ghost use Rattle.result_refusals.specs.Shape.{lengthFaults, Headed, Found};
+ghost use Rattle.spec.specs.ResultRecord.{resultLengthFaults, resultShapeFaults};
+ghost use Rattle.result_refusals.specs.Shape.{Headed, Found};
 
 pub enum Located {
     At(Layout),
@@ -15,7 +16,7 @@ pub enum Located {
 // A record whose first three bytes are right: refusal 13.
 fn locate_parts(bytes: &[u8], fields: u32, m: u32, rows: u32) -> Located
     requires { ⌜ Headed (now bytes) fields m rows ⌝ }
-    ensures { λ r. ⌜ Found (now (bytes .entry)) (lengthFaults (now (bytes .entry))) r ⌝ }
+    ensures { λ r. ⌜ Found (now (bytes .entry)) (resultLengthFaults (now (bytes .entry))) r ⌝ }
 {
     let end = length_of(fields, m, rows as usize);
     if bytes.len() != end {
@@ -37,29 +38,9 @@ fn locate_parts(bytes: &[u8], fields: u32, m: u32, rows: u32) -> Located
 pub fn locate(bytes: &[u8]) -> Located
     ensures { λ r. ⌜ Found (now (bytes .entry)) (resultShapeFaults (now (bytes .entry))) r ⌝ }
 {
-    if bytes.len() == 0 {
-        return Located::Refused(13);
+    let head = read_head(bytes);
+    match head {
+        Head::Known(fields, m, rows) => locate_parts(bytes, fields, m, rows),
+        Head::Unfit(k) => Located::Refused(k),
     }
-    let fields = wide(bytes[0]);
-    if fields > 3 {
-        return Located::Refused(14);
-    }
-    if bytes.len() < 3 {
-        return Located::Refused(13);
-    }
-    let m = wide(bytes[1]);
-    if m < 2 {
-        return Located::Refused(1);
-    }
-    if m > 10 {
-        return Located::Refused(1);
-    }
-    let rows = wide(bytes[2]);
-    if rows < 1 {
-        return Located::Refused(4);
-    }
-    if rows > 32 {
-        return Located::Refused(4);
-    }
-    locate_parts(bytes, fields, m, rows)
 }

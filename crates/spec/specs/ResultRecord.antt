@@ -71,16 +71,22 @@ module _ (s : List ℕ) where
   abbrev pub resultInputs : List ℕ
   resultInputs = rowsFrom (positions s) rowCount packedPart
 
-  -- both readers: 13 if empty, 14, 13 under three bytes, 1, 4, 13 if not exactly as long as its fields need
-  abbrev pub resultShapeFaults : List Fault
-  resultShapeFaults =
+  -- both readers: 13 if empty, 14, 13 under three bytes, 1, 4, which the first three bytes decide, and then 13 if not exactly as long as
+  -- its fields need
+  abbrev pub resultHeadFaults : List Fault
+  resultHeadFaults =
       fault 13 (eqb (length s) 0)
       ∷ fault 14 (ltb 3 (fields s))
       ∷ fault 13 (ltb (length s) 3)
       ∷ fault 1 (outside 2 10 (exponent s))
       ∷ fault 4 (outside 1 32 rowCount)
-      ∷ fault 13 (not (eqb (length s) resultEnd))
       ∷ []
+
+  abbrev pub resultLengthFaults : List Fault
+  resultLengthFaults = fault 13 (not (eqb (length s) resultEnd)) ∷ []
+
+  abbrev pub resultShapeFaults : List Fault
+  resultShapeFaults = resultHeadFaults ++ resultLengthFaults
 
   -- then 22: rising scores, a present frame number 0, a present ceiling that is not above the first score
   abbrev pub zeroFrame : Bool

@@ -1,22 +1,16 @@
 -- `result_refusals::shape::locate_parts` meets its contract. Assumes nothing.
 use mathlib.Core.Path.{_≡_, sym, ap, _∙_}
-use mathlib.Core.List.{List}
-use Prim.Native.Nat.{ℕ, _+_, _*_, _^_}
+use Prim.Native.Nat.{ℕ, _^_}
 use native.Mathlib.Omega.{arith}
 use borrow.Author.Needs.{needs}
 use lib.ListN.{length}
-use Rattle.spec.specs.Code.{mapBytes}
 use Rattle.spec.specs.Record.{fields}
 use Rattle.spec.specs.ResultRecord.{scoresAt, resultEnd}
 use Rattle.laws.specs.FirstFault.{refuses, here, differ}
-use Rattle.result_refusals.specs.Shape.{Headed}
+use Rattle.result_refusals.specs.Shape.{end-is}
 use Rattle.result_refusals.proofs.Answers.{located}
 use Rattle.result_refusals.proofs.shape.locate_parts.Statement.{statement}
 use Rattle.result_refusals.proofs.shape.locate_parts.Tie as tie
-
--- where a record with this head must end
-end-is : {s : List ℕ} {f m k : ℕ} → Headed s f m k → scoresAt f + 4 * k + k * mapBytes (2 ^ m) ≡ resultEnd s
-end-is w = rw (w .fields-are, w .m-is, w .rows-are)
 
 length-of-requires : tie.Need-length-of-requires
 length-of-requires c κs =
