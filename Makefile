@@ -1,5 +1,6 @@
 # make look   the program on the sample within seconds, with nothing proved
 # make run    decode a record: the sample, or the file RECORD names
+# make log    print the page of result records for the shift log: of stored ones, or of the file RESULTS names
 # make test   prove everything and compare the library and the program with the references
 # make test-floats  all 2^32 bit patterns of a float through the quantiser, against a second rounding
 # make hosts  build the library and the tools make_record, decode_stream and run_load, and run the example hosts
@@ -20,11 +21,15 @@ export CC CFLAGS
 
 LIBRARY = target/staticlib/libcaldurrex.a
 PROGRAM = target/bin/decode_job
+LOG = target/bin/shift_log
 OUT = target/c
 PROVED = crates.txt $(shell find crates -name '*.rt' -o -name '*.antt')
 
 # The sample record of the rules, as bytes.
 RECORD = crates/decode_job/stdin
+
+# Result records back to back: those that the stored page is of.
+RESULTS = crates/shift_log/stdin
 
 HOSTS = encode_extract decode_block display_early read_record read_result decode_samples decode_links
 
@@ -35,7 +40,7 @@ TOOLS = make_record decode_stream run_load
 CODES = conv64 conv256 conv1024
 SETTINGS = $(STATE:%=state=%) $(BLOCKS:%=blocks=%) $(THREADS:%=threads=%)
 
-.PHONY: look run test test-floats hosts load bench stored-records clean
+.PHONY: look run log test test-floats hosts load bench stored-records clean
 
 # rt try takes the sources as they are: it asks for no proof.
 look:
@@ -48,6 +53,9 @@ look:
 
 run: $(PROGRAM)
 	@$(PROGRAM) < $(RECORD)
+
+log: $(LOG)
+	@$(LOG) < $(RESULTS)
 
 test:
 	tests/run-all
@@ -105,6 +113,9 @@ endef
 
 $(PROGRAM): $(PROVED)
 	$(call prove,check decode_job)
+
+$(LOG): $(PROVED)
+	$(call prove,check shift_log)
 
 $(LIBRARY): $(PROVED)
 	$(call prove,staticlib caldurrex)

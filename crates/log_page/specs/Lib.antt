@@ -1,0 +1,6 @@
+pub mod Steps
+pub mod Reading
+pub mod Fronts
+pub mod Printed
+pub mod Counts
+pub mod Made
