@@ -64,44 +64,50 @@ module _ (k : ℕ) (s : List ℕ) (n : ℕ) (within : n ≤ length s) where
         by-number zero e = omega (arith, extent-all k s some-all few e)
         by-number (suc r) e = omega (arith, extent-head k s some-all few (suc r) e (λ q. omega (arith, q)) (map-good s (suc r) x e))
 
-  -- ---- the extent grows with the front, up to that of all
-  pub extent-grows : extent k t ≤ extent k s
-  extent-grows = by-length (ltb n 1) refl
-    where
-      by-three : (k ≡ 1000 → ⊥) → 1 ≤ n → fields s ≤ 3 → (b : Bool) → ltb n 3 ≡ b → extent k t ≤ extent k s
-      by-three few h x true e = omega (arith, head-first few h x (ltb-true n 3 e), at-least-three few h x)
-      by-three few h x false e = omega (arith, same-extent few h x (ltb-false n 3 e))
+  -- ---- what the front tells: nothing yet, that the head is needed, or as much as all of s
+  data Tells : Type 0 where
+    nothing : n ≡ 0 → 1 ≡ extent k t → Tells
+    head : n < 3 → 3 ≡ extent k t → 3 ≤ extent k s → Tells
+    all : extent k t ≡ extent k s → Tells
 
-      by-map : (k ≡ 1000 → ⊥) → 1 ≤ n → (b : Bool) → ltb 3 (fields s) ≡ b → extent k t ≤ extent k s
-      by-map few h true e = let m = map-bad few h (ltb-true 3 (fields s) e) in omega (arith, m .0, m .1)
+  tells : Tells
+  tells = by-length (ltb n 1) refl
+    where
+      by-three : (k ≡ 1000 → ⊥) → 1 ≤ n → fields s ≤ 3 → (b : Bool) → ltb n 3 ≡ b → Tells
+      by-three few h x true e = let j = ltb-true n 3 e in head j (head-first few h x j) (at-least-three few h x)
+      by-three few h x false e = all (same-extent few h x (ltb-false n 3 e))
+
+      by-map : (k ≡ 1000 → ⊥) → 1 ≤ n → (b : Bool) → ltb 3 (fields s) ≡ b → Tells
+      by-map few h true e = let m = map-bad few h (ltb-true 3 (fields s) e) in all (sym (m .0) ∙ m .1)
       by-map few h false e = by-three few h (ltb-false 3 (fields s) e) (ltb n 3) refl
 
-      by-count : 1 ≤ n → (b : Bool) → eqb k 1000 ≡ b → extent k t ≤ extent k s
-      by-count h true e = let full = eqb-true k 1000 e in omega (arith, extent-none k t full, extent-none k s full)
+      by-count : 1 ≤ n → (b : Bool) → eqb k 1000 ≡ b → Tells
+      by-count h true e = let full = eqb-true k 1000 e in all (sym (extent-none k t full) ∙ extent-none k s full)
       by-count h false e = by-map (eqb-false k 1000 e) h (ltb 3 (fields s)) refl
 
-      by-length : (b : Bool) → ltb n 1 ≡ b → extent k t ≤ extent k s
-      by-length true e = omega (arith, extent-first k t (omega (arith, long, ltb-true n 1 e)), extent-some k s)
+      by-length : (b : Bool) → ltb n 1 ≡ b → Tells
+      by-length true e =
+          let none : n ≡ 0 = omega (arith, ltb-true n 1 e) in
+          nothing none (extent-first k t (long ∙ none))
       by-length false e = by-count (ltb-false n 1 e) (eqb k 1000) refl
 
-  -- ---- a front that is as long as its extent has the extent of all
-  pub extent-stays : extent k t ≤ n → extent k t ≡ extent k s
-  extent-stays enough = by-count (eqb k 1000) refl
+  -- the extent grows with the front, up to that of all
+  pub extent-grows : extent k t ≤ extent k s
+  extent-grows = by-case tells
     where
-      h : 1 ≤ n
-      h = omega (arith, enough, extent-some k t)
+      by-case : Tells → extent k t ≤ extent k s
+      by-case (nothing e one) = omega (arith, one, extent-some k s)
+      by-case (head j three more) = omega (arith, three, more)
+      by-case (all e) = omega (arith, e)
 
-      by-three : (k ≡ 1000 → ⊥) → fields s ≤ 3 → (b : Bool) → ltb n 3 ≡ b → extent k t ≡ extent k s
-      by-three few x true e = absurd (omega (arith, head-first few h x (ltb-true n 3 e), ltb-true n 3 e, enough))
-      by-three few x false e = same-extent few h x (ltb-false n 3 e)
-
-      by-map : (k ≡ 1000 → ⊥) → (b : Bool) → ltb 3 (fields s) ≡ b → extent k t ≡ extent k s
-      by-map few true e = let m = map-bad few h (ltb-true 3 (fields s) e) in sym (m .0) ∙ m .1
-      by-map few false e = by-three few (ltb-false 3 (fields s) e) (ltb n 3) refl
-
-      by-count : (b : Bool) → eqb k 1000 ≡ b → extent k t ≡ extent k s
-      by-count true e = let full = eqb-true k 1000 e in sym (extent-none k t full) ∙ extent-none k s full
-      by-count false e = by-map (eqb-false k 1000 e) (ltb 3 (fields s)) refl
+  -- a front that is as long as its extent has the extent of all
+  pub extent-stays : extent k t ≤ n → extent k t ≡ extent k s
+  extent-stays enough = by-case tells
+    where
+      by-case : Tells → extent k t ≡ extent k s
+      by-case (nothing e one) = absurd (omega (arith, e, one, enough))
+      by-case (head j three more) = absurd (omega (arith, j, three, enough))
+      by-case (all e) = e
 
   -- ---- WHAT IS READ. A front no longer than its own extent, which is shorter only where the input stops, is what is taken of the input.
   pub front-is-taken : n ≤ extent k t → (n < extent k t → n ≡ length s) → t ≡ taken k s
