@@ -11,8 +11,8 @@ void page_check_open(const char *path, unsigned long seed);
 /* Runs the program on a stream that is fed in this way, and often once more with other packed bits,
  * which stay in the stream. The page by the rules must end as the stream was made to end, and must
  * be the same with other packed bits. The program must print that page and end with status 0, must
- * have read no byte behind the one that decides the page, and must print each line before it waits
- * for more. Ends this program where anything differs. */
+ * have read no byte behind the one that decides the page, and must print what each piece decides
+ * before the next one comes. Ends this program where anything differs. */
 void page_try(struct page_stream *s, enum feed feed);
 
 /* The same, fed in a way that is drawn; a long stream is not fed byte by byte. */

@@ -13,7 +13,7 @@ use lib.Seq.{take-all, take-take, getD-take, length-take-le}
 use Rattle.spec.specs.Faults.{first}
 use Rattle.spec.specs.Record.{fields}
 use Rattle.spec.specs.ResultRecord.{resultHeadFaults}
-use Rattle.log_page.specs.Reading.{extent, taken, extent-first, extent-none, extent-all, extent-map, extent-head, map-refused, map-good, too-few, end-same, head-same, extent-some}
+use Rattle.log_page.specs.Reading.{extent, taken, extent-first, extent-none, extent-all, extent-map, extent-head, map-refused, map-good, too-few, end-same, head-same, at-least-three, extent-some}
 
 -- a front of s of n bytes
 module _ (k : ℕ) (s : List ℕ) (n : ℕ) (within : n ≤ length s) where
@@ -57,13 +57,6 @@ module _ (k : ℕ) (s : List ℕ) (n : ℕ) (within : n ≤ length s) where
     head-first x j =
         extent-head k t some few 13 (too-few t some (omega (arith, long)) (omega (arith, x, first-byte h))) (λ q. omega (arith, q)) (λ q. omega (arith, q))
 
-    at-least-three : fields s ≤ 3 → 3 ≤ extent k s
-    at-least-three x = by-number (first (resultHeadFaults s)) refl
-      where
-        by-number : (r : ℕ) → r ≡ first (resultHeadFaults s) → 3 ≤ extent k s
-        by-number zero e = omega (arith, extent-all k s some-all few e)
-        by-number (suc r) e = omega (arith, extent-head k s some-all few (suc r) e (λ q. omega (arith, q)) (map-good s (suc r) x e))
-
   -- ---- what the front tells: nothing yet, that the head is needed, or as much as all of s
   data Tells : Type 0 where
     nothing : n ≡ 0 → 1 ≡ extent k t → Tells
@@ -74,7 +67,7 @@ module _ (k : ℕ) (s : List ℕ) (n : ℕ) (within : n ≤ length s) where
   tells = by-length (ltb n 1) refl
     where
       by-three : (k ≡ 1000 → ⊥) → 1 ≤ n → fields s ≤ 3 → (b : Bool) → ltb n 3 ≡ b → Tells
-      by-three few h x true e = let j = ltb-true n 3 e in head j (head-first few h x j) (at-least-three few h x)
+      by-three few h x true e = let j = ltb-true n 3 e in head j (head-first few h x j) (at-least-three k s few (some-all few h) x)
       by-three few h x false e = all (same-extent few h x (ltb-false n 3 e))
 
       by-map : (k ≡ 1000 → ⊥) → 1 ≤ n → (b : Bool) → ltb 3 (fields s) ≡ b → Tells

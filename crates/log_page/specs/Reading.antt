@@ -78,7 +78,7 @@ map-good t n h e = by-case n (of-first (resultHeadFaults t) n e)
     by-case j (later _ (later _ (later _ (later _ (later _ none))))) q = omega (arith, q)
 
 -- what its head is refused for it is refused for whatever follows
-head-decides : (u : List ℕ) (n : ℕ) → n ≡ first (resultHeadFaults u) → (n ≡ 0 → ⊥) → n ≡ operatorRefusal u 32
+pub head-decides : (u : List ℕ) (n : ℕ) → n ≡ first (resultHeadFaults u) → (n ≡ 0 → ⊥) → n ≡ operatorRefusal u 32
 head-decides u n e x = operator-shape u 32 n (first-before (resultHeadFaults u) (resultLengthFaults u) n e x) x
 
 -- fewer than three bytes are refused with 13
@@ -165,6 +165,14 @@ module _ (k : ℕ) (s : List ℕ) (few : k ≡ 1000 → ⊥) (some : length s �
       by-map : (c : Bool) → ltb 3 (fields s) ≡ c → Decided (taken k s) (recordIn s)
       by-map true e = one-byte (ltb-true 3 (fields s) e)
       by-map false e = by-length (ltb-false 3 (fields s) e) (ltb (length s) 3) refl
+
+-- three bytes are needed where the first is good
+pub at-least-three : (k : ℕ) (s : List ℕ) → (k ≡ 1000 → ⊥) → (length s ≡ 0 → ⊥) → fields s ≤ 3 → 3 ≤ extent k s
+at-least-three k s few some x = by-number (first (resultHeadFaults s)) refl
+  where
+    by-number : (r : ℕ) → r ≡ first (resultHeadFaults s) → 3 ≤ extent k s
+    by-number zero e = omega (arith, extent-all k s some few e)
+    by-number (suc r) e = omega (arith, extent-head k s some few (suc r) e (λ q. omega (arith, q)) (map-good s (suc r) x e))
 
 -- ---- something is taken where there is something
 pub extent-some : (k : ℕ) (t : List ℕ) → 1 ≤ extent k t

@@ -1,16 +1,21 @@
--- Every line of a page has 43 columns and a line feed: the numbers fit into their columns, whatever the bytes of the input are.
-use mathlib.Core.Path.{_≡_, refl, sym, ap, subst, _∙_}
-use mathlib.Core.Bool.{true, false}
+-- Every line of a page has 43 columns and a line feed behind them: the numbers fit into their columns, whatever the bytes of the input are,
+-- and a column shows a space or a visible character.
+use mathlib.Core.Path.{_≡_, refl, sym, subst}
+use mathlib.Core.Bool.{Bool, true, false, cond}
 use mathlib.Core.List.{List, [], _∷_, _++_, append-assoc, append-nil}
-use Prim.Native.Nat.{ℕ, zero, suc, _+_, _*_, _≤_, _<_}
+use Prim.Native.Nat.{ℕ, zero, suc, _+_, _-_, _*_, _/_, _%_, _≤_, _<_}
 use native.Mathlib.Omega.{arith}
+use borrow.Author.Tests.{ltb-true}
+use lib.Dec.{ltb}
 use lib.ListN.{length, take, drop, length-append, length-replicate}
-use Rattle.spec.specs.Faults.{Fault, fault, first}
+use lib.IntN.{ℤ, pos, negsuc, _-ℤ_}
+use Rattle.spec.specs.Faults.{Fault, fault, first, outside, some}
 use Rattle.spec.specs.ResultRecord.{firstScore, rising, resultEnd, ResultAnswer, resultSays, refusedResult, operatorFaults, operatorRefusal}
-use Rattle.laws.specs.ListCost.{All, none, more, all-take, all-drop}
+use Rattle.laws.specs.FirstFault.{not-either, inside-of}
+use Rattle.laws.specs.ListCost.{All, none, more, all-take, all-drop, all-append}
 use Rattle.result_round_trip.specs.FourBytes.{Wide, Byte, first-wide}
 use Rattle.result_round_trip.specs.OneForm.{read-fits}
-use Rattle.text.specs.Decimal.{decimal, signedDecimal, decimal-32, decimal-length}
+use Rattle.text.specs.Decimal.{digits, decimal, signedDecimal, decimal-32, decimal-length}
 use Rattle.text.specs.Words.{refusedWord, space, lineFeed}
 use Rattle.columns.specs.Columns.{spaces, right, left, length-right, length-left}
 use Rattle.page.specs.Lines.{lead, counts, resultLine, refusedLine, lastLine}
@@ -18,7 +23,66 @@ use Rattle.page.specs.Lead.{score-short, lead-short}
 use Rattle.page.specs.Page.{recordIn, operatorSays, Entry, entry, answered, Shift, stopped, another, atEnd, shiftFrom, entryLines, rowSum, closing, pageOf, page}
 use Rattle.page.specs.Heard.{refused-number, frame-is, scores-are, few-rows, falling}
 
--- ---- lines of 44 bytes
+-- ---- columns that show something: a space or a visible character of ASCII
+abbrev pub Shown : ℕ → Type 0
+Shown b = (32 ≤ b) × (b < 127)
+
+-- by a test of each, which can be computed
+shown-by-test : (xs : List ℕ) → some (outside 32 126) xs ≡ false → All Shown xs
+unfolding some
+shown-by-test [] e = none
+shown-by-test (b ∷ xs) e =
+    let both = not-either (outside 32 126 b) (some (outside 32 126) xs) e in
+    let h = inside-of 32 126 b (both .0) in
+    more (h .0, omega (arith, h .1)) (shown-by-test xs (both .1))
+
+spaces-shown : (k : ℕ) → All Shown (spaces k)
+spaces-shown zero = none
+spaces-shown (suc k) = more {x = 32} (omega arith, omega arith) (spaces-shown k)
+
+right-shown : (w : ℕ) {xs : List ℕ} → All Shown xs → All Shown (right w xs)
+unfolding right
+right-shown w {xs} a = all-append (spaces-shown (w - length xs)) a
+
+digits-shown : (fuel n : ℕ) → All Shown (digits fuel n)
+unfolding digits
+digits-shown zero n = none
+digits-shown (suc fuel) n = by-test (ltb n 10) refl (digits-shown fuel (n / 10))
+  where
+    by-test : (b : Bool) → ltb n 10 ≡ b → All Shown (digits fuel (n / 10)) → All Shown (cond b ((48 + n) ∷ []) (digits fuel (n / 10) ++ ((48 + n % 10) ∷ [])))
+    by-test true e a = let h = ltb-true n 10 e in more {x = 48 + n} (omega arith, omega arith) none
+    by-test false e a = all-append a (more {x = 48 + n % 10} (omega arith, omega arith) none)
+
+decimal-shown : (n : ℕ) → All Shown (decimal n)
+unfolding decimal
+decimal-shown n = digits-shown (suc n) n
+
+minus-shown : {xs : List ℕ} → All Shown xs → All Shown (45 ∷ xs)
+minus-shown a = more {x = 45} (omega arith, omega arith) a
+
+signed-shown : (z : ℤ) → All Shown (signedDecimal z)
+signed-shown (pos n) = decimal-shown n
+signed-shown (negsuc n) = minus-shown (decimal-shown (suc n))
+
+lead-shown : (ys : List ℤ) → All Shown (lead ys)
+unfolding lead
+lead-shown [] = minus-shown none
+lead-shown (y ∷ []) = minus-shown none
+lead-shown (y ∷ z ∷ ys) = signed-shown (y -ℤ z)
+
+space-shown : {xs : List ℕ} → All Shown xs → All Shown (space ++ xs)
+space-shown a = more {x = 32} (omega arith, omega arith) a
+
+counts-shown : (a b : ℕ) → All Shown (counts a b)
+counts-shown a b = all-append (all-append (right-shown 10 (decimal-shown a)) (space-shown none)) (right-shown 6 (decimal-shown b))
+
+-- ---- a line: 43 such columns and a line feed
+pub record Line (line : List ℕ) : Type 0 where
+  pub columns : List ℕ
+  pub long : length columns ≡ 43
+  pub shown : All Shown columns
+  pub is : line ≡ columns ++ lineFeed
+
 counts-long : (a b : ℕ) → a < 4294967296 → b < 1000000 → length (counts a b) ≡ 17
 counts-long a b h g =
     omega (
@@ -29,22 +93,25 @@ counts-long a b h g =
       length-right 6 (decimal b) (decimal-length 5 b (omega arith)),
     )
 
-pub refused-long : (k : ℕ) → k < 4294967296 → length (refusedLine k) ≡ 44
-unfolding refusedLine
-refused-long k h =
-    length-append (left 43 (refusedWord ++ decimal k)) lineFeed
-    ∙ ap (λ (n : ℕ). n + 1) (length-left 43 (refusedWord ++ decimal k) (omega (arith, length-append refusedWord (decimal k), decimal-32 k h)))
+pub refused-line : (k : ℕ) → k < 4294967296 → Line (refusedLine k)
+unfolding refusedLine left some
+refused-line k h =
+    let text : List ℕ = refusedWord ++ decimal k in
+    record {
+      columns = left 43 text;
+      long = length-left 43 text (omega (arith, length-append refusedWord (decimal k), decimal-32 k h));
+      shown = all-append (all-append (shown-by-test refusedWord refl) (decimal-shown k)) (spaces-shown (43 - length text));
+      is = refl;
+    }
 
-pub last-long : (k rows : ℕ) → k < 4294967296 → rows < 1000000 → length (lastLine k rows) ≡ 44
+pub last-line : (k rows : ℕ) → k < 4294967296 → rows < 1000000 → Line (lastLine k rows)
 unfolding lastLine
-last-long k rows h g =
-    omega (
-      arith,
-      length-append (counts k rows ++ spaces 26) lineFeed,
-      length-append (counts k rows) (spaces 26),
-      length-replicate {A = ℕ} 26 32,
-      counts-long k rows h g,
-    )
+last-line k rows h g = record {
+  columns = counts k rows ++ spaces 26;
+  long = omega (arith, length-append (counts k rows) (spaces 26), length-replicate {A = ℕ} 26 32, counts-long k rows h g);
+  shown = all-append (counts-shown k rows) (spaces-shown 26);
+  is = refl;
+}
 
 -- an entry whose numbers are those of a record: of 32 bits, at most 32 rows, scores that do not rise
 pub record Small (e : Entry) : Type 0 where
@@ -53,23 +120,31 @@ pub record Small (e : Entry) : Type 0 where
   pub scores : All Wide (e .scores)
   pub falling : rising (e .scores) ≡ false
 
-pub result-long : (e : Entry) → Small e → length (resultLine (e .frame) (e .rows) (e .scores)) ≡ 44
+pub result-line : (e : Entry) → Small e → Line (resultLine (e .frame) (e .rows) (e .scores))
 unfolding resultLine
-result-long e s =
+result-line e s =
     let a : List ℕ = counts (e .frame) (e .rows) in
     let b : List ℕ = right 12 (signedDecimal (firstScore (e .scores))) in
     let c : List ℕ = right 12 (lead (e .scores)) in
-    omega (
-      arith,
-      length-append (a ++ (space ++ b) ++ (space ++ c)) lineFeed,
-      length-append (a ++ (space ++ b)) (space ++ c),
-      length-append a (space ++ b),
-      length-append space b,
-      length-append space c,
-      counts-long (e .frame) (e .rows) (s .frame) (omega (arith, s .rows)),
-      length-right 12 (signedDecimal (firstScore (e .scores))) (score-short (firstScore (e .scores)) (first-wide (s .scores))),
-      length-right 12 (lead (e .scores)) (lead-short (e .scores) (s .scores) (s .falling)),
-    )
+    record {
+      columns = a ++ (space ++ b) ++ (space ++ c);
+      long =
+          omega (
+            arith,
+            length-append (a ++ (space ++ b)) (space ++ c),
+            length-append a (space ++ b),
+            length-append space b,
+            length-append space c,
+            counts-long (e .frame) (e .rows) (s .frame) (omega (arith, s .rows)),
+            length-right 12 (signedDecimal (firstScore (e .scores))) (score-short (firstScore (e .scores)) (first-wide (s .scores))),
+            length-right 12 (lead (e .scores)) (lead-short (e .scores) (s .scores) (s .falling)),
+          );
+      shown =
+          all-append
+          (all-append (counts-shown (e .frame) (e .rows)) (space-shown (right-shown 12 (signed-shown (firstScore (e .scores))))))
+          (space-shown (right-shown 12 (lead-shown (e .scores))));
+      is = refl;
+    }
 
 -- ---- a refusal number has at most two digits
 numberOf : Fault → ℕ
@@ -126,35 +201,39 @@ shift-fine (suc left) s bytes =
     (answer-fine t (all-take (resultEnd s) bytes) left (shiftFrom left behind) (shift-fine left behind (all-drop (resultEnd s) bytes)) (operatorSays t .answer) refl)
 
 -- ---- the page in lines
--- a text that is lines of 44 bytes, one behind the other
 pub data InLines : List ℕ → Type 0 where
   no-line : InLines []
-  a-line : (line behind : List ℕ) → length line ≡ 44 → InLines behind → InLines (line ++ behind)
+  a-line : (line behind : List ℕ) → Line line → InLines behind → InLines (line ++ behind)
 
-one-line : (line : List ℕ) → length line ≡ 44 → InLines line
+one-line : (line : List ℕ) → Line line → InLines line
 one-line line h = subst InLines (append-nil line) (a-line line [] h no-line)
 
 entries-in-lines : (es : List Entry) → All Small es → (u : List ℕ) → InLines u → InLines (entryLines es ++ u)
 unfolding entryLines
 entries-in-lines [] none u l = l
 entries-in-lines (e ∷ es) (more h all) u l =
-    subst InLines (sym (append-assoc (resultLine (e .frame) (e .rows) (e .scores)) (entryLines es) u))
-    (a-line (resultLine (e .frame) (e .rows) (e .scores)) (entryLines es ++ u) (result-long e h) (entries-in-lines es all u l))
+    let line : List ℕ = resultLine (e .frame) (e .rows) (e .scores) in
+    subst InLines (sym (append-assoc line (entryLines es) u))
+    (a-line line (entryLines es ++ u) (result-line e h) (entries-in-lines es all u l))
 
 closing-in-lines : (n k rows : ℕ) → n < 100 → k < 4294967296 → rows < 1000000 → InLines (closing n k rows)
-closing-in-lines zero k rows h i j = one-line (lastLine k rows) (last-long k rows i j)
-closing-in-lines (suc n) k rows h i j = a-line (refusedLine (suc n)) (lastLine k rows) (refused-long (suc n) (omega arith)) (one-line (lastLine k rows) (last-long k rows i j))
+closing-in-lines zero k rows h i j = one-line (lastLine k rows) (last-line k rows i j)
+closing-in-lines (suc n) k rows h i j =
+    a-line (refusedLine (suc n)) (lastLine k rows) (refused-line (suc n) (omega arith)) (one-line (lastLine k rows) (last-line k rows i j))
 
 rows-few : (es : List Entry) → All Small es → rowSum es ≤ 32 * length es
 unfolding rowSum
 rows-few [] none = omega arith
 rows-few (e ∷ es) (more h all) = omega (arith, h .rows, rows-few es all)
 
--- 43 COLUMNS. The page of any input of bytes is lines of 44 bytes.
+-- 43 COLUMNS. The page of any input of bytes is such lines, one behind the other.
 pub page-in-lines : (s : List ℕ) → All Byte s → InLines (page s)
 unfolding page pageOf
 page-in-lines s bytes =
     let x : Shift = shiftFrom 1000 s in
+    let n : ℕ = length (x .entries) in
+    let sum : ℕ = rowSum (x .entries) in
     let fine = shift-fine 1000 s bytes in
-    entries-in-lines (x .entries) (fine .entries) (closing (x .refusal) (length (x .entries)) (rowSum (x .entries)))
-    (closing-in-lines (x .refusal) (length (x .entries)) (rowSum (x .entries)) (fine .number) (omega (arith, fine .few)) (omega (arith, fine .few, rows-few (x .entries) (fine .entries))))
+    let few : sum < 1000000 = omega (arith, fine .few, rows-few (x .entries) (fine .entries)) in
+    entries-in-lines (x .entries) (fine .entries) (closing (x .refusal) n sum)
+    (closing-in-lines (x .refusal) n sum (fine .number) (omega (arith, fine .few)) few)

@@ -20,7 +20,7 @@ unfolding sampleBytes page pageOf shiftFrom entryLines rowSum operatorOutcome op
 sample-page = refl
 
 -- ---- what is read of an input
--- nothing; a packed bit past n, of which the operator is told nothing; two records, one row the second, whose scores are -5
+-- nothing; a packed bit past n, of which the operator is told nothing; two records, the second with one row, whose score is -5
 unfoldable pub good : List (List ℕ)
 good = [] ∷ pastSample ∷ (pastSample ++ (3 ∷ 2 ∷ 1 ∷ 7 ∷ 0 ∷ 0 ∷ 0 ∷ 1 ∷ 0 ∷ 0 ∷ 0 ∷ 251 ∷ 255 ∷ 255 ∷ 255 ∷ 255 ∷ [])) ∷ []
 
@@ -59,11 +59,11 @@ unfolding sampleBytes shiftFrom operatorOutcome operatorServed operatorRefusal f
 one-too-many = refl
 
 -- ---- lines
--- `     65535     32        -2047            -`, `         1     32         2047         4094`, `refused 23` and 33 spaces, and the last
+-- `     65535      1        -2047            -`, `         1      2         2047         4094`, `refused 23` and 33 spaces, and the last
 -- line, `      1000  32000` and 26 spaces
-pub lines : resultLine 65535 32 (negsuc 2046 ∷ []) ∷ resultLine 1 32 (pos 2047 ∷ negsuc 2046 ∷ []) ∷ refusedLine 23 ∷ lastLine 1000 32000 ∷ []
-    ≡ (replicate 5 32 ++ (54 ∷ 53 ∷ 53 ∷ 51 ∷ 53 ∷ replicate 5 32) ++ (51 ∷ 50 ∷ replicate 8 32) ++ (45 ∷ 50 ∷ 48 ∷ 52 ∷ 55 ∷ replicate 12 32) ++ (45 ∷ 10 ∷ []))
-    ∷ (replicate 9 32 ++ (49 ∷ replicate 5 32) ++ (51 ∷ 50 ∷ replicate 9 32) ++ (50 ∷ 48 ∷ 52 ∷ 55 ∷ replicate 9 32) ++ (52 ∷ 48 ∷ 57 ∷ 52 ∷ 10 ∷ []))
+pub lines : resultLine 65535 1 (negsuc 2046 ∷ []) ∷ resultLine 1 2 (pos 2047 ∷ negsuc 2046 ∷ []) ∷ refusedLine 23 ∷ lastLine 1000 32000 ∷ []
+    ≡ (replicate 5 32 ++ (54 ∷ 53 ∷ 53 ∷ 51 ∷ 53 ∷ replicate 6 32) ++ (49 ∷ replicate 8 32) ++ (45 ∷ 50 ∷ 48 ∷ 52 ∷ 55 ∷ replicate 12 32) ++ (45 ∷ 10 ∷ []))
+    ∷ (replicate 9 32 ++ (49 ∷ replicate 6 32) ++ (50 ∷ replicate 9 32) ++ (50 ∷ 48 ∷ 52 ∷ 55 ∷ replicate 9 32) ++ (52 ∷ 48 ∷ 57 ∷ 52 ∷ 10 ∷ []))
     ∷ ((114 ∷ 101 ∷ 102 ∷ 117 ∷ 115 ∷ 101 ∷ 100 ∷ 32 ∷ 50 ∷ 51 ∷ replicate 33 32) ++ (10 ∷ []))
     ∷ (replicate 6 32 ++ (49 ∷ 48 ∷ 48 ∷ 48 ∷ 32 ∷ 32 ∷ 51 ∷ 50 ∷ 48 ∷ 48 ∷ 48 ∷ replicate 26 32) ++ (10 ∷ []))
     ∷ []
