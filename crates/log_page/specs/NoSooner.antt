@@ -17,8 +17,8 @@ use Rattle.laws.specs.ResultReading.{result-head-numbers, operatorRest, operato
 use Rattle.log_page.specs.Reading.{extent, taken, extent-all, extent-map, extent-head, map-refused, map-good, too-few, head-decides, end-same, head-same, at-least-three, extent-some}
 
 module _ (k : ℕ) (s : List ℕ) (few : k ≡ 1000 → ⊥) (there : extent k s ≤ length s) where
-  some : 1 ≤ extent k s → (length s ≡ 0 → ⊥)
-  some h q = omega (arith, h, q, there)
+  begun : (length s ≡ 0 → ⊥)
+  begun q = omega (arith, q, there, extent-some k s)
 
   -- a good head, whose length is another
   cut : (n : ℕ) → 3 ≤ n → n ≤ length s → 0 ≡ first (resultHeadFaults s) → (n ≡ resultEnd s → ⊥) → 13 ≡ operatorRefusal (take n s) 32
@@ -33,9 +33,6 @@ module _ (k : ℕ) (s : List ℕ) (few : k ≡ 1000 → ⊥) (there : extent k s
   pub sooner-stops : (n : ℕ) → 1 ≤ n → n < extent k s → 13 ≡ operatorRefusal (take n s) 32
   sooner-stops n h l = by-map (ltb 3 (fields s)) refl
     where
-      begun : (length s ≡ 0 → ⊥)
-      begun = some (omega arith)
-
       long : length (take n s) ≡ n
       long = length-take-le n s (omega arith)
 
@@ -63,9 +60,6 @@ module _ (k : ℕ) (s : List ℕ) (few : k ≡ 1000 → ⊥) (there : extent k s
   pub enough-tells : operatorRefusal (taken k s) 32 ≡ 13 → ⊥
   enough-tells q = by-map (ltb 3 (fields s)) refl
     where
-      begun : (length s ≡ 0 → ⊥)
-      begun = some (extent-some k s)
-
       long : length (taken k s) ≡ extent k s
       long = length-take-le (extent k s) s there
 

@@ -13,7 +13,8 @@ use Rattle.page.specs.Lines.{resultLine, refusedLine, lastLine}
 abbrev pub recordIn : List ℕ → List ℕ
 recordIn s = take (resultEnd s) s
 
--- what the operator reader says of it, lent 32 scores, which is room for every record; 13 where the input stopped sooner
+-- what the operator reader says of it, lent 32 scores, which is room for every record; where the input stopped sooner, 13 or what comes
+-- before it in the reader's order
 abbrev pub operatorSays : List ℕ → OperatorReading
 operatorSays t = operatorOutcome t (replicate 32 (pos 0))
 
