@@ -55,7 +55,7 @@ module _ {A : Type 0} {P : A → Type 0} where
   all_map f none = none
   all_map f (more {x} p a) = more (f x p) (all_map f a)
 
-pub all_under : {A B : Type 0} (f : A → B) {xs : List A} (P : B → Type 0) → All (λ (a : A). P (f a)) xs → All P (map f xs)
+pub all_under : {A B : Type 0} (f : A → B) (P : B → Type 0) {xs : List A} → All (λ (a : A). P (f a)) xs → All P (map f xs)
 all_under f P none = none
 all_under f P (more p a) = more p (all_under f P a)
 

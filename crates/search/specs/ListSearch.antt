@@ -17,6 +17,7 @@ pub data In {A : Type 0} (x : A) : List A → Type 0 where
 
 module _ {A : Type 0} where
   pub all_in : {P : A → Type 0} {x : A} {xs : List A} → All P xs → In x xs → P x
+  all_in {P = P} none i = elim i [ ]
   all_in (more p a) here = p
   all_in (more p a) (there i) = all_in a i
 

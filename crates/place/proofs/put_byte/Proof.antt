@@ -6,13 +6,13 @@ use Rattle.place.specs.Put.{placed_one}
 use Rattle.place.proofs.put_byte.Statement.{statement}
 use Rattle.place.proofs.put_byte.Tie as tie
 
-slice_write_out : tie.Need-slice-write-out
+slice_write_out : tie.Need-bounds-out-at
 slice_write_out c = omega arith
 
-add_result : tie.Need-overflow-add-result
+add_result : tie.Need-overflow_add-result
 add_result c = omega arith
 
-same_length : tie.Need-same-length
+same_length : tie.Need-shape_of-out
 same_length c = simp length-set
 
 returns : tie.Need-returns

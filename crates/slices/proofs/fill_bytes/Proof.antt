@@ -7,39 +7,39 @@ use Rattle.slices.specs.Fill.{filled_from, filled_step, filled_end}
 use Rattle.slices.proofs.fill_bytes.Statement.{statement}
 use Rattle.slices.proofs.fill_bytes.Tie as tie
 
-abbrev invariant-loop : tie.invariant-loop
-invariant-loop bytes₀ from i₀ bytes i = (length bytes ≡ length bytes₀) × (filled_from 0 from bytes₀ ≡ filled_from 0 i bytes)
+abbrev invariant-loop-i : tie.invariant-loop-i
+invariant-loop-i bytes₀ from i₀ bytes i = (length bytes ≡ length bytes₀) × (filled_from 0 from bytes₀ ≡ filled_from 0 i bytes)
 
-abbrev decreases-loop : tie.decreases-loop
-decreases-loop bytes₀ from i₀ bytes i = length bytes₀ - i
+abbrev decreases-loop-i : tie.decreases-loop-i
+decreases-loop-i bytes₀ from i₀ bytes i = length bytes₀ - i
 
-loop_holds : tie.Need-loop-init invariant-loop decreases-loop
+loop_holds : tie.Need-loop-i-init invariant-loop-i decreases-loop-i
 loop_holds c = (refl, refl)
 
-slice_write_bytes : tie.Need-slice-write-bytes invariant-loop decreases-loop
+slice_write_bytes : tie.Need-bounds-bytes-i invariant-loop-i decreases-loop-i
 slice_write_bytes c = omega arith
 
-add_i : tie.Need-overflow-add-i invariant-loop decreases-loop
+add_i : tie.Need-overflow_add-i invariant-loop-i decreases-loop-i
 add_i c = omega arith
 
-loop_less : tie.Need-loop-smaller invariant-loop decreases-loop
+loop_less : tie.Need-loop-i-smaller invariant-loop-i decreases-loop-i
 loop_less c = omega arith
 
-loop_again : tie.Need-loop-preserved invariant-loop decreases-loop
-loop_again c = (simp length-set (omega arith), c.before.loop.invariant.1 ∙ filled_step 0 c.before.loop.i c.before.loop.bytes (omega arith))
+loop_again : tie.Need-loop-i-preserved invariant-loop-i decreases-loop-i
+loop_again c = (simp length-set (omega arith), c.before.loop-i.invariant.1 ∙ filled_step 0 c.before.loop-i.i c.before.loop-i.bytes (omega arith))
 
-same_length : tie.Need-same-length invariant-loop decreases-loop
+same_length : tie.Need-shape_of-bytes invariant-loop-i decreases-loop-i
 same_length c = omega arith
 
-returns : tie.Need-returns invariant-loop decreases-loop
-returns c = sym (c.before.loop.invariant.1 ∙ filled_end 0 c.before.loop.i c.before.loop.bytes (omega arith))
+returns : tie.Need-returns invariant-loop-i decreases-loop-i
+returns c = sym (c.before.loop-i.invariant.1 ∙ filled_end 0 c.before.loop-i.i c.before.loop-i.bytes (omega arith))
 
 pub fill_bytes_spec : {M : Type 1} → statement M
 fill_bytes_spec =
     tie.close
     (tie.spec
-    invariant-loop
-    decreases-loop
+    invariant-loop-i
+    decreases-loop-i
     loop_holds
     slice_write_bytes
     add_i

@@ -9,7 +9,7 @@ use Rattle.slices.proofs.times.Tie as tie
 small : (a b : ℕ) → a ≤ 65536 → b ≤ 65536 → a * b ≤ 4294967296
 small a b h k = mul-le-mul h k
 
-mul_result : tie.Need-overflow-mul-result
+mul_result : tie.Need-overflow_mul-result
 mul_result c = omega (arith, small c.args.a c.args.b (omega arith) (omega arith))
 
 returns : tie.Need-returns
