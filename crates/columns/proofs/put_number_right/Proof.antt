@@ -12,36 +12,36 @@ use Rattle.columns.specs.Columns.{right}
 use Rattle.columns.specs.Turns.{front_is}
 
 -- the digits
-abbrev start : tie.After-put-number → tie.Start
+abbrev start : tie.After-put_number-k → tie.Start
 start p = p.before.before.before
 
-room : (p : tie.After-put-number) → length p.put-number.new.0 ≡ 10
-room p = p.put-number.auto.0
+room : (p : tie.After-put_number-k) → length p.put_number-k.new.0 ≡ 10
+room p = p.put_number-k.auto.0
 
-digits : (p : tie.After-put-number) → (take p.put-number.result p.put-number.new.0 ≡ decimal (start p).args.x) × (p.put-number.result ≡ length (decimal (start p).args.x))
-digits p = front_is p.put-number.ensures.0 (omega (arith, p.put-number.ensures.1))
+digits : (p : tie.After-put_number-k) → (take p.put_number-k.result p.put_number-k.new.0 ≡ decimal (start p).args.x) × (p.put_number-k.result ≡ length (decimal (start p).args.x))
+digits p = front_is p.put_number-k.ensures.0 (omega (arith, p.put_number-k.ensures.1))
 
-slice_aggregate_put_number : tie.Need-slice-aggregate-put-number
+slice_aggregate_put_number : tie.Need-slice_bounds-put_number-end
 slice_aggregate_put_number c = search rules
 
-put_number_requires : tie.Need-put-number-requires
+put_number_requires : tie.Need-put_number-k-requires
 put_number_requires c κs = search rules
 
-array_share_prefix_digits : tie.Need-array-share-prefix-digits
+array_share_prefix_digits : tie.Need-slice_bounds-digits-end
 array_share_prefix_digits c = search rules
 
-slice_aggregate_put_right : tie.Need-slice-aggregate-put-right
+slice_aggregate_put_right : tie.Need-slice_bounds-put_right-end
 slice_aggregate_put_right c =
     let p = c.before.before.before in
-    sym (length-take-le p.put-number.result p.put-number.new.0 (omega (arith, room p, p.put-number.ensures.1)))
+    sym (length-take-le p.put_number-k.result p.put_number-k.new.0 (omega (arith, room p, p.put_number-k.ensures.1)))
 
-put_right_requires : tie.Need-put-right-requires
+put_right_requires : tie.Need-put_right-requires
 put_right_requires c κs =
     let p = c.before.before.before in
     let s = start p in
-    (omega (arith, ap length (digits p).0, s.pre.0), s.pre.1)
+    (omega (arith, ap length (digits p).0, s.requires.0), s.requires.1)
 
-same_length : tie.Need-same-length
+same_length : tie.Need-shape_of-out
 same_length c = search rules
 
 returns : tie.Need-returns

@@ -6,16 +6,16 @@ use Rattle.columns.proofs.put_right.Tie as tie
 use Rattle.place.specs.Put.{then}
 use Rattle.columns.specs.Columns.{right}
 
-sub_put_spaces : tie.Need-overflow-sub-put-spaces
+sub_put_spaces : tie.Need-overflow_sub-w
 sub_put_spaces c = search rules
 
-put_spaces_requires : tie.Need-put-spaces-requires
+put_spaces_requires : tie.Need-put_spaces-next-requires
 put_spaces_requires c κs = search rules
 
-put_bytes_requires : tie.Need-put-bytes-requires
+put_bytes_requires : tie.Need-put_bytes-requires
 put_bytes_requires c κs = search rules
 
-same_length : tie.Need-same-length
+same_length : tie.Need-shape_of-out
 same_length c = search rules
 
 returns : tie.Need-returns
@@ -24,7 +24,7 @@ returns c =
     let p = c.before.before in
     let q = p.before.before.before.before in
     let s = q.before.before.before.before in
-    (then q.put-spaces.ensures.0 p.put-bytes.ensures.0, omega (arith, p.put-bytes.ensures.0.place, q.put-spaces.ensures.1, s.requires.0))
+    (then q.put_spaces-next.ensures.0 p.put_bytes.ensures.0, omega (arith, p.put_bytes.ensures.0.place, q.put_spaces-next.ensures.1, s.requires.0))
 
 pub put_right_spec : {M : Type 1} → statement M
 put_right_spec =

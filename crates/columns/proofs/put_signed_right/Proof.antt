@@ -14,38 +14,38 @@ use Rattle.columns.specs.Columns.{right}
 use Rattle.columns.specs.Turns.{front_is}
 
 -- the digits
-abbrev start : tie.After-put-signed → tie.Start
+abbrev start : tie.After-put_signed-k → tie.Start
 start p = p.before.before.before
 
-room : (p : tie.After-put-signed) → length p.put-signed.new.0 ≡ 11
-room p = p.put-signed.auto.0
+room : (p : tie.After-put_signed-k) → length p.put_signed-k.new.0 ≡ 11
+room p = p.put_signed-k.auto.0
 
-digits : (p : tie.After-put-signed) → take p.put-signed.result p.put-signed.new.0 ≡ signed_decimal (start p).args.z
+digits : (p : tie.After-put_signed-k) → take p.put_signed-k.result p.put_signed-k.new.0 ≡ signed_decimal (start p).args.z
 digits p =
-    (front_is p.put-signed.ensures.0 (omega (arith, p.put-signed.ensures.1))).0
+    (front_is p.put_signed-k.ensures.0 (omega (arith, p.put_signed-k.ensures.1))).0
     ∙ ap signed_decimal (to_z-of_z w32 (start p).args.z (start p).ranges.z)
 
-slice_aggregate_put_signed : tie.Need-slice-aggregate-put-signed
+slice_aggregate_put_signed : tie.Need-slice_bounds-put_signed-end
 slice_aggregate_put_signed c = search rules
 
-put_signed_requires : tie.Need-put-signed-requires
+put_signed_requires : tie.Need-put_signed-k-requires
 put_signed_requires c κs = search rules
 
-array_share_prefix_digits : tie.Need-array-share-prefix-digits
+array_share_prefix_digits : tie.Need-slice_bounds-digits-end
 array_share_prefix_digits c = search rules
 
-slice_aggregate_put_right : tie.Need-slice-aggregate-put-right
+slice_aggregate_put_right : tie.Need-slice_bounds-put_right-end
 slice_aggregate_put_right c =
     let p = c.before.before.before in
-    sym (length-take-le p.put-signed.result p.put-signed.new.0 (omega (arith, room p, p.put-signed.ensures.1)))
+    sym (length-take-le p.put_signed-k.result p.put_signed-k.new.0 (omega (arith, room p, p.put_signed-k.ensures.1)))
 
-put_right_requires : tie.Need-put-right-requires
+put_right_requires : tie.Need-put_right-requires
 put_right_requires c κs =
     let p = c.before.before.before in
     let s = start p in
-    (omega (arith, ap length (digits p), s.pre.0), s.pre.1)
+    (omega (arith, ap length (digits p), s.requires.0), s.requires.1)
 
-same_length : tie.Need-same-length
+same_length : tie.Need-shape_of-out
 same_length c = search rules
 
 returns : tie.Need-returns

@@ -20,7 +20,7 @@ correlated r n cols word soft gs en ew er a b t ec =
     ∙ ap (λ (k : ℕ). folded k (binned (columns (length y) gs) (signed_by y word) (replicate (2 ^ k) (pos 0)))) (sym er)
     ∙ fold_is y word gs (ew ∙ same) t (all_map (λ g e. e ∙ same) a) b
 
-bin_positions_requires : tie.Need-bin-positions-requires
+bin_positions_requires : tie.Need-bin_positions-requires
 bin_positions_requires c κs =
     let f = c.before.before.before.before.requires in
     (f.word_long, f.cols_long, all_map (λ (k : ℕ) (l : k < 2 ^ c.before.before.before.before.args.r). rw f.bins_long l) f.cols_below, f.in_range)
@@ -28,14 +28,14 @@ bin_positions_requires c κs =
 fold_requires : tie.Need-fold-requires
 fold_requires c κs = search rules
 
-same_length : tie.Need-same-length
+same_length : tie.Need-shape_of-bins
 same_length c = search rules
 
 returns : tie.Need-returns
 returns c gs er a b t ec =
     let p = c.before.before.before.before.before.before in
     let s = p.before.before.before.before.before in
-    c.before.before.fold.ensures _ p.bin-positions.ensures
+    c.before.before.fold.ensures _ p.bin_positions.ensures
     ∙ ap (map wrapped)
     (correlated s.args.r _ s.args.cols.now s.args.word.now s.args.soft.now gs s.requires.bins_long s.requires.word_long er a b t ec)
 

@@ -35,24 +35,24 @@ small r h = below (mag (pos r -ℤ pos 40)) (at (λ r x. ltb (mag (pos r -ℤ po
 lower : (x : ℕ) → SFits w16 (to_z w16 (x % 41) -ℤ pos 40)
 lower x = subst (λ (z : ℤ). SFits w16 (z -ℤ pos 40)) (sym (read x)) (record { sfits = small (x % 41) (omega arith) })
 
-cast_result : tie.Need-overflow-cast-result
+cast_result : tie.Need-overflow_cast-result
 cast_result c = search rules
 
-returns : tie.Need-returns
+returns : tie.Need-returns-then-bit-eq0
 returns c =
     let a = c.before.args in
-    read a.x ∙ clear a.bit a.x c.if1.true
+    read a.x ∙ clear a.bit a.x c.if-bit-eq0.true
 
-cast_result_2 : tie.Need-overflow-cast-result-2
+cast_result_2 : tie.Need-overflow_cast-result-2
 cast_result_2 c = search rules
 
-sub_result : tie.Need-overflow-sub-result
+sub_result : tie.Need-overflow_sub-result
 sub_result c = lower c.before.args.x
 
-returns_2 : tie.Need-returns-2
+returns_2 : tie.Need-returns
 returns_2 c =
     let a = c.before.args in
-    to_z-of_z w16 _ (lower a.x) ∙ ap (λ (z : ℤ). z -ℤ pos 40) (read a.x) ∙ set_bit a.bit a.x c.if1.false
+    to_z-of_z w16 _ (lower a.x) ∙ ap (λ (z : ℤ). z -ℤ pos 40) (read a.x) ∙ set_bit a.bit a.x c.if-bit-eq0.false
 
 pub noisy_value_spec : {M : Type 1} → statement M
 noisy_value_spec = tie.close (tie.spec cast_result returns cast_result_2 sub_result returns_2)

@@ -7,25 +7,25 @@ use lib.ListN.{get_or}
 use Rattle.numbers.proofs.four.Statement.{statement}
 use Rattle.numbers.proofs.four.Tie as tie
 
-shared_slice_read_joined : tie.Need-shared-slice-read-joined
+shared_slice_read_joined : tie.Need-bounds-bytes-at
 shared_slice_read_joined c = search rules
 
-add_joined : tie.Need-overflow-add-joined
+add_joined : tie.Need-overflow_add-at
 add_joined c = search rules
 
-shared_slice_read_joined_2 : tie.Need-shared-slice-read-joined-2
+shared_slice_read_joined_2 : tie.Need-bounds-bytes-at-2
 shared_slice_read_joined_2 c = search rules
 
-add_joined_2 : tie.Need-overflow-add-joined-2
+add_joined_2 : tie.Need-overflow_add-at-2
 add_joined_2 c = search rules
 
-shared_slice_read_joined_3 : tie.Need-shared-slice-read-joined-3
+shared_slice_read_joined_3 : tie.Need-bounds-bytes-at-3
 shared_slice_read_joined_3 c = search rules
 
-add_joined_3 : tie.Need-overflow-add-joined-3
+add_joined_3 : tie.Need-overflow_add-at-3
 add_joined_3 c = search rules
 
-shared_slice_read_joined_4 : tie.Need-shared-slice-read-joined-4
+shared_slice_read_joined_4 : tie.Need-bounds-bytes-at-4
 shared_slice_read_joined_4 c = search rules
 
 joined_requires : tie.Need-joined-requires

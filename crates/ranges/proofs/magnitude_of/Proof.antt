@@ -10,30 +10,30 @@ use Rattle.signs.specs.Signs.{flip_fits, flip_back, flip_size, not_below, size_b
 use Rattle.ranges.proofs.magnitude_of.Statement.{statement}
 use Rattle.ranges.proofs.magnitude_of.Tie as tie
 
-returns : tie.Need-returns
-returns c = flip_size w16 c.before.args.y c.before.fits.y c.if1.taken
+returns : tie.Need-returns-then-y-lt0
+returns c = flip_size w16 c.before.args.y c.before.ranges.y c.if-y-lt0.true
 
-returns_2 : tie.Need-returns-2
-returns_2 c = size_back w16 c.before.args.y c.before.fits.y
+returns_2 : tie.Need-returns-else-y-lt0
+returns_2 c = size_back w16 c.before.args.y c.before.ranges.y
 
-sub_result : tie.Need-sub-result
-sub_result c = flip_fits w16 c.before.args.y c.before.fits.y c.if1.taken
+sub_result : tie.Need-overflow_sub-result
+sub_result c = flip_fits w16 c.before.args.y c.before.ranges.y c.if-y-lt0.true
 
-cast_result : tie.Need-cast-result
+cast_result : tie.Need-overflow_cast-result
 cast_result c =
-    let back = flip_back w16 c.before.args.y c.before.fits.y c.if1.taken in
-    (subst (λ (z : ℤ). T (non_neg z)) (sym back) tt, record { fits = subst (λ (z : ℤ). nat_abs z < 4294967296) (sym back) (omega (arith, c.before.fits.y.sfits)) })
+    let back = flip_back w16 c.before.args.y c.before.ranges.y c.if-y-lt0.true in
+    (subst (λ (z : ℤ). T (non_neg z)) (sym back) tt, record { fits = subst (λ (z : ℤ). nat_abs z < 4294967296) (sym back) (omega (arith, c.before.ranges.y.sfits)) })
 
-add_result : tie.Need-add-result
+add_result : tie.Need-overflow_add-result
 add_result c =
-    let back = flip_back w16 c.before.args.y c.before.fits.y c.if1.taken in
-    record { fits = subst (λ (z : ℤ). nat_abs z + 1 < 4294967296) (sym back) (omega (arith, c.before.fits.y.sfits)) }
+    let back = flip_back w16 c.before.args.y c.before.ranges.y c.if-y-lt0.true in
+    record { fits = subst (λ (z : ℤ). nat_abs z + 1 < 4294967296) (sym back) (omega (arith, c.before.ranges.y.sfits)) }
 
-cast_result_2 : tie.Need-cast-result-2
+cast_result_2 : tie.Need-overflow_cast-result-else-y-lt0
 cast_result_2 c =
     let y = c.before.args.y in
-    let f = c.before.fits.y in
-    (not_below w16 y f c.if1.left, record { fits = subst (λ (k : ℕ). k < 4294967296) (sym (size_back w16 y f)) (omega (arith, nat_abs-le y f.sfits)) })
+    let f = c.before.ranges.y in
+    (not_below w16 y f c.if-y-lt0.false, record { fits = subst (λ (k : ℕ). k < 4294967296) (sym (size_back w16 y f)) (omega (arith, nat_abs-le y f.sfits)) })
 
 pub magnitude_of_spec : {M : Type 1} → statement M
 magnitude_of_spec =

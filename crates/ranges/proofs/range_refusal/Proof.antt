@@ -13,20 +13,20 @@ abbrev table : tie.Start → List Fault
 table c = range_faults c.args.n c.args.l c.args.p
 
 -- the list size is in range
-ok4 : (c : tie.Else2) → outside 1 32 c.before.before.args.l ≡ false
-ok4 c = inside 1 32 _ c.before.if1.left c.if2.left
+ok4 : (c : tie.Else-l-gt32) → outside 1 32 c.before.before.args.l ≡ false
+ok4 c = inside 1 32 _ c.before.if-l-lt1.false c.if-l-gt32.false
 
-returns : tie.Need-returns
-returns c = is_first (table c.before) 4 (here (below 1 32 _ c.if1.taken))
+returns : tie.Need-returns-then-l-lt1
+returns c = is_first (table c.before) 4 (here (below 1 32 _ c.if-l-lt1.true))
 
-returns_2 : tie.Need-returns-2
-returns_2 c = is_first (table c.before.before) 4 (here (above 1 32 _ c.if2.taken))
+returns_2 : tie.Need-returns-then-l-gt32
+returns_2 c = is_first (table c.before.before) 4 (here (above 1 32 _ c.if-l-gt32.true))
 
-returns_3 : tie.Need-returns-3
-returns_3 c = is_first (table c.before.before.before) 5 (later (ok4 c.before) (here (lt-ltb _ _ c.if3.taken)))
+returns_3 : tie.Need-returns-then-n-p
+returns_3 c = is_first (table c.before.before.before) 5 (later (ok4 c.before) (here (lt-ltb _ _ c.if-n-p.true)))
 
-returns_4 : tie.Need-returns-4
-returns_4 c = is_first (table c.before.before.before) 0 (later (ok4 c.before) (later (le-ltb _ _ c.if3.left) none))
+returns_4 : tie.Need-returns
+returns_4 c = is_first (table c.before.before.before) 0 (later (ok4 c.before) (later (le-ltb _ _ c.if-n-p.false) none))
 
 pub range_refusal_spec : {M : Type 1} → statement M
 range_refusal_spec = tie.close (tie.spec returns returns_2 returns_3 returns_4)

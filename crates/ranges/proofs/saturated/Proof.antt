@@ -23,16 +23,16 @@ other : (y : ℤ) → lt_z y (negsuc 2046) ≡ false → y ≡ saturated y
 other (pos n) t = refl
 other (negsuc n) t = rw (ne_eqb n 2047 (λ e. omega (arith, ltb-false 2046 n t)))
 
-returns : tie.Need-returns
+returns : tie.Need-returns-then-y-ltminus2047
 returns c =
     let y : ℤ = c.before.args.y in
-    lowest y c.before.pre (ap (λ (z : ℤ). lt_z z (negsuc 2046)) (sym (to_z-of_z w16 y c.before.fits.y)) ∙ c.if1.taken)
+    lowest y c.before.requires (ap (λ (z : ℤ). lt_z z (negsuc 2046)) (sym (to_z-of_z w16 y c.before.ranges.y)) ∙ c.if-y-ltminus2047.true)
 
-returns_2 : tie.Need-returns-2
+returns_2 : tie.Need-returns
 returns_2 c =
     let y : ℤ = c.before.args.y in
-    let e = to_z-of_z w16 y c.before.fits.y in
-    e ∙ other y (ap (λ (z : ℤ). lt_z z (negsuc 2046)) (sym e) ∙ c.if1.left)
+    let e = to_z-of_z w16 y c.before.ranges.y in
+    e ∙ other y (ap (λ (z : ℤ). lt_z z (negsuc 2046)) (sym e) ∙ c.if-y-ltminus2047.false)
 
 pub saturated_spec : {M : Type 1} → statement M
 saturated_spec = tie.close (tie.spec returns returns_2)

@@ -17,11 +17,11 @@ reading nan e = absurd (true≢false (sym nan_differs ∙ e))
 reading (inf s) e = refl
 reading (fin s m k) e = refl
 
-returns : tie.Need-returns
-returns c = gap c.before.args.x c.if1.true
+returns : tie.Need-returns-then-x
+returns c = gap c.before.args.x c.if-x.true
 
-returns_2 : tie.Need-returns-2
-returns_2 c = reading c.before.args.x c.if1.false
+returns_2 : tie.Need-returns
+returns_2 c = reading c.before.args.x c.if-x.false
 
 pub part_of_spec : {M : Type 1} → statement M
 part_of_spec = tie.close (tie.spec returns returns_2)

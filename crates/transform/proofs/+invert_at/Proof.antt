@@ -36,13 +36,13 @@ module _ (t : ℕ) where
   Start = lts.Start (claims t) (word_at t) word.Post
 
   abbrev Long : Type 0
-  Long = lts.Else2 (claims t) (word_at t) word.Post
+  Long = lts.Else-m-eq3 (claims t) (word_at t) word.Post
 
   abbrev First : Type 0
-  First = lts.After-invert-at (claims t) (word_at t) word.Post
+  First = lts.After-invert_at (claims t) (word_at t) word.Post
 
   abbrev Second : Type 0
-  Second = lts.After-invert-at2 (claims t) (word_at t) word.Post
+  Second = lts.After-invert_at-2 (claims t) (word_at t) word.Post
 
   abbrev start : Long → Start
   start c = c.before.before.before
@@ -57,7 +57,7 @@ module _ (t : ℕ) where
   given c = (start c).requires.1
 
   more : (c : Long) → 3 < (start c).args.m
-  more c = omega (arith, (given c).least, c.before.if1.false, c.if2.false)
+  more c = omega (arith, (given c).least, c.before.if-m-eq2.false, c.if-m-eq3.false)
 
   less : (c : Long) → (start c).args.m - 1 < t
   less c = omega (arith, more c, (start c).requires.0)
@@ -71,72 +71,72 @@ done : (t : ℕ) (c : Start t) {k : ℕ} {s : List ℕ} → c.args.m ≡ k → s
 done t c e q = rw e q
 
 -- ---- the needs
-invert_four_requires : (t : ℕ) → lts.Need-invert-four-requires (claims t) (word_at t) word.Post
-invert_four_requires t c κs = rw c.before.if1.true at c.before.before.before.requires.1.lies
+invert_four_requires : (t : ℕ) → lts.Need-invert_four-requires (claims t) (word_at t) word.Post
+invert_four_requires t c κs = rw c.before.if-m-eq2.true at c.before.before.before.requires.1.lies
 
-same_length : (t : ℕ) → lts.Need-same-length (claims t) (word_at t) word.Post
+same_length : (t : ℕ) → lts.Need-shape_of-s-then-m-eq2 (claims t) (word_at t) word.Post
 same_length t c = search rules
 
-returns : (t : ℕ) → lts.Need-returns (claims t) (word_at t) word.Post
+returns : (t : ℕ) → lts.Need-returns-then-m-eq2 (claims t) (word_at t) word.Post
 returns t c =
     let f = c.before.before in
-    done t f.before.before.before.before f.before.before.if1.true f.invert-four.ensures
+    done t f.before.before.before.before f.before.before.if-m-eq2.true f.invert_four.ensures
 
-invert_eight_requires : (t : ℕ) → lts.Need-invert-eight-requires (claims t) (word_at t) word.Post
-invert_eight_requires t c κs = rw c.before.if2.true at c.before.before.before.before.requires.1.lies
+invert_eight_requires : (t : ℕ) → lts.Need-invert_eight-requires (claims t) (word_at t) word.Post
+invert_eight_requires t c κs = rw c.before.if-m-eq3.true at c.before.before.before.before.requires.1.lies
 
-same_length_2 : (t : ℕ) → lts.Need-same-length-2 (claims t) (word_at t) word.Post
+same_length_2 : (t : ℕ) → lts.Need-shape_of-s-then-m-eq3 (claims t) (word_at t) word.Post
 same_length_2 t c = search rules
 
-returns_2 : (t : ℕ) → lts.Need-returns-2 (claims t) (word_at t) word.Post
+returns_2 : (t : ℕ) → lts.Need-returns-then-m-eq3 (claims t) (word_at t) word.Post
 returns_2 t c =
     let e = c.before.before in
-    done t e.before.before.before.before.before e.before.before.if2.true e.invert-eight.ensures
+    done t e.before.before.before.before.before e.before.before.if-m-eq3.true e.invert_eight.ensures
 
-sub_invert_at : (t : ℕ) → lts.Need-overflow-sub-invert-at (claims t) (word_at t) word.Post
+sub_invert_at : (t : ℕ) → lts.Need-overflow_sub-m (claims t) (word_at t) word.Post
 sub_invert_at t c = omega (arith, more t c.before)
 
-mul_invert_at : (t : ℕ) → lts.Need-overflow-mul-invert-at (claims t) (word_at t) word.Post
+mul_invert_at : (t : ℕ) → lts.Need-overflow_mul-d (claims t) (word_at t) word.Post
 mul_invert_at t c = omega (arith, room t c.before)
 
-invert_at_requires : (t : ℕ) → lts.Need-invert-at-requires (claims t) (word_at t) word.Post
+invert_at_requires : (t : ℕ) → lts.Need-invert_at-requires (claims t) (word_at t) word.Post
 invert_at_requires t c κs = (less t c.before, inverse_first (given t c.before) (more t c.before))
 
-sub_invert_at_2 : (t : ℕ) → lts.Need-overflow-sub-invert-at-2 (claims t) (word_at t) word.Post
+sub_invert_at_2 : (t : ℕ) → lts.Need-overflow_sub-m-2 (claims t) (word_at t) word.Post
 sub_invert_at_2 t c = omega (arith, more t (long t c.before.before.before))
 
-add_invert_at : (t : ℕ) → lts.Need-overflow-add-invert-at (claims t) (word_at t) word.Post
+add_invert_at : (t : ℕ) → lts.Need-overflow_add-at (claims t) (word_at t) word.Post
 add_invert_at t c =
     let l : Long t = long t c.before.before.before in
     omega (arith, room t l, (given t l).lies.first)
 
-mul_invert_at_2 : (t : ℕ) → lts.Need-overflow-mul-invert-at-2 (claims t) (word_at t) word.Post
+mul_invert_at_2 : (t : ℕ) → lts.Need-overflow_mul-d-2 (claims t) (word_at t) word.Post
 mul_invert_at_2 t c = omega (arith, room t (long t c.before.before.before))
 
-invert_at_requires_2 : (t : ℕ) → lts.Need-invert-at-requires-2 (claims t) (word_at t) word.Post
+invert_at_requires_2 : (t : ℕ) → lts.Need-invert_at-requires-2 (claims t) (word_at t) word.Post
 invert_at_requires_2 t c κs =
     let f : First t = c.before.before.before in
     let l : Long t = long t f in
-    (less t l, inverse_second (given t l) (more t l) f.invert-at.ensures)
+    (less t l, inverse_second (given t l) (more t l) f.invert_at.ensures)
 
 join_requires : (t : ℕ) → lts.Need-join-requires (claims t) (word_at t) word.Post
 join_requires t c κs =
     let e : Second t = c.before.before.before in
     let f : First t = first t e in
-    for_join (given t (long t f)) (more t (long t f)) f.invert-at.ensures e.invert-at2.ensures
+    for_join (given t (long t f)) (more t (long t f)) f.invert_at.ensures e.invert_at-2.ensures
 
-same_length_3 : (t : ℕ) → lts.Need-same-length-3 (claims t) (word_at t) word.Post
+same_length_3 : (t : ℕ) → lts.Need-shape_of-s (claims t) (word_at t) word.Post
 same_length_3 t c = search rules
 
-returns_3 : (t : ℕ) → lts.Need-returns-3 (claims t) (word_at t) word.Post
+returns_3 : (t : ℕ) → lts.Need-returns (claims t) (word_at t) word.Post
 returns_3 t c =
     let j = c.before.before in
     let e : Second t = j.before.before.before.before in
     let f : First t = first t e in
-    inverse_done (given t (long t f)) (more t (long t f)) f.invert-at.ensures e.invert-at2.ensures j.join.ensures
+    inverse_done (given t (long t f)) (more t (long t f)) f.invert_at.ensures e.invert_at-2.ensures j.join.ensures
 
-pub +invert-at-spec : {M : Type 1} → statement M
-+invert-at-spec = close μ-word λ t. lts.spec (claims t) (word_at t) word.Post
+pub +invert_at_spec : {M : Type 1} → statement M
++invert_at_spec = close μ-word λ t. lts.spec (claims t) (word_at t) word.Post
     (invert_four_requires t)
     (same_length t)
     (returns t)

@@ -11,21 +11,21 @@ use Rattle.code.proofs.bits.bit_refusal.Tie as tie
 abbrev table : tie.Start → List Fault
 table c = bit_faults c.args.n c.args.s.now
 
-returns : tie.Need-returns
-returns c = is_first (table c.before.before) 6 (here (differ _ _ c.if1.true))
+returns : tie.Need-returns-then-s-n
+returns c = is_first (table c.before.before) 6 (here (differ _ _ c.if-s-n.true))
 
-above_one_requires : tie.Need-above-one-requires
+above_one_requires : tie.Need-above_one-requires
 above_one_requires c κs = search rules
 
-returns_2 : tie.Need-returns-2
+returns_2 : tie.Need-returns-then-above_one
 returns_2 c =
     is_first (table c.before.before.before.before) 11
-    (later (same _ _ c.before.before.if1.false) (here (sym c.before.above-one.ensures ∙ c.if2.true)))
+    (later (same _ _ c.before.before.if-s-n.false) (here (sym c.before.above_one.ensures ∙ c.if-above_one.true)))
 
-returns_3 : tie.Need-returns-3
+returns_3 : tie.Need-returns
 returns_3 c =
     is_first (table c.before.before.before.before) 0
-    (later (same _ _ c.before.before.if1.false) (later (sym c.before.above-one.ensures ∙ c.if2.false) none))
+    (later (same _ _ c.before.before.if-s-n.false) (later (sym c.before.above_one.ensures ∙ c.if-above_one.false) none))
 
 pub bit_refusal_spec : {M : Type 1} → statement M
 bit_refusal_spec = tie.close (tie.spec returns above_one_requires returns_2 returns_3)

@@ -5,13 +5,13 @@ use Rattle.laws.specs.MapBits.{get_d_unpacked}
 use Rattle.code.proofs.flags.flag.Statement.{statement}
 use Rattle.code.proofs.flags.flag.Tie as tie
 
-shared_slice_read_byte : tie.Need-shared-slice-read-byte
+shared_slice_read_byte : tie.Need-bounds-map-i
 shared_slice_read_byte c = search rules
 
-cast_result : tie.Need-overflow-cast-result
+cast_result : tie.Need-overflow_cast-result
 cast_result c = search rules
 
-shr_result : tie.Need-overflow-shr-result
+shr_result : tie.Need-overflow_shr-result
 shr_result c = search rules
 
 returns : tie.Need-returns

@@ -26,43 +26,43 @@ module _ (e h : ℕ) {a b f g : ℕ} (p : a ≡ f) (q : b ≡ g) where
   equal : {x y : ℕ} → a ≡ b → x ≡ e → y ≡ h → ltb x y ≡ ordered f e g h
   equal k r s = rw (le-ltb f g (omega arith), eq-eqb f g (sym p ∙ k ∙ q)) (ap₂ ltb r s)
 
-sub_named : tie.Need-overflow-sub-named
+sub_named : tie.Need-overflow_sub-at
 sub_named c = search rules
 
-named_requires : tie.Need-named-requires
+named_requires : tie.Need-named-f-requires
 named_requires c κs = search rules
 
-named_requires_2 : tie.Need-named-requires-2
+named_requires_2 : tie.Need-named-g-requires
 named_requires_2 c κs = search rules
 
-returns : tie.Need-returns
+returns : tie.Need-returns-then-f-g
 returns c =
     let a = c.before.before.before.before.args in
-    less (two_at a.pairs.now (a.at - 2)) (two_at a.pairs.now (a.at + 2)) c.before.before.named.ensures.0 c.before.named2.ensures.0 c.if1.true
+    less (two_at a.pairs.now (a.at - 2)) (two_at a.pairs.now (a.at + 2)) c.before.before.named-f.ensures.0 c.before.named-g.ensures.0 c.if-f-g.true
 
-returns_2 : tie.Need-returns-2
+returns_2 : tie.Need-returns-then-f-g-2
 returns_2 c =
     let w = c.before.before in
     let a = w.before.before.before.args in
-    more (two_at a.pairs.now (a.at - 2)) (two_at a.pairs.now (a.at + 2)) w.before.named.ensures.0 w.named2.ensures.0 c.before.if1.false c.if2.true
+    more (two_at a.pairs.now (a.at - 2)) (two_at a.pairs.now (a.at + 2)) w.before.named-f.ensures.0 w.named-g.ensures.0 c.before.if-f-g.false c.if-f-g-2.true
 
-sub_named_2 : tie.Need-overflow-sub-named-2
+sub_named_2 : tie.Need-overflow_sub-at-2
 sub_named_2 c = search rules
 
-named_requires_3 : tie.Need-named-requires-3
+named_requires_3 : tie.Need-named-requires
 named_requires_3 c κs = search rules
 
-add_named : tie.Need-overflow-add-named
+add_named : tie.Need-overflow_add-at
 add_named c = search rules
 
-named_requires_4 : tie.Need-named-requires-4
+named_requires_4 : tie.Need-named-requires-2
 named_requires_4 c κs = search rules
 
-returns_3 : tie.Need-returns-3
+returns_3 : tie.Need-returns
 returns_3 c =
     let w = c.before.before.before.before in
     let a = w.before.before.before.args in
-    equal (two_at a.pairs.now (a.at - 2)) (two_at a.pairs.now (a.at + 2)) w.before.named.ensures.0 w.named2.ensures.0 c.before.before.if2.false c.before.named3.ensures.0 c.named4.ensures.0
+    equal (two_at a.pairs.now (a.at - 2)) (two_at a.pairs.now (a.at + 2)) w.before.named-f.ensures.0 w.named-g.ensures.0 c.before.before.if-f-g-2.false c.before.named.ensures.0 c.named-2.ensures.0
 
 pub rises_spec : {M : Type 1} → statement M
 rises_spec =

@@ -25,25 +25,25 @@ module _ (flags : List ℕ) (f e : ℕ) where
       go true p = sym (ap not (le-ltb e f (leb-true f e p)))
       go false p = sym (ap not (lt-ltb e f (leb-false f e p)))
 
-returns : tie.Need-returns
+returns : tie.Need-returns-then-f-n
 returns c =
     let a = c.before.before.args in
-    clear (flags_of a.n a.map.now) a.f a.e (past_flags a.n a.map.now a.f c.if1.true)
+    clear (flags_of a.n a.map.now) a.f a.e (past_flags a.n a.map.now a.f c.if-f-n.true)
 
 flag_requires : tie.Need-flag-requires
 flag_requires c κs = search rules
 
-returns_2 : tie.Need-returns-2
+returns_2 : tie.Need-returns-then-flag-eq0
 returns_2 c =
     let a = c.before.before.before.before.args in
     clear (flags_of a.n a.map.now) a.f a.e
-    (flag_at a.n a.map.now a.f c.before.before.if1.false ∙ sym c.before.flag.ensures ∙ c.if2.true)
+    (flag_at a.n a.map.now a.f c.before.before.if-f-n.false ∙ sym c.before.flag.ensures ∙ c.if-flag-eq0.true)
 
-returns_3 : tie.Need-returns-3
+returns_3 : tie.Need-returns
 returns_3 c =
     let a = c.before.before.before.before.args in
     frozen (flags_of a.n a.map.now) a.f a.e
-    (λ z. c.if2.false (c.before.flag.ensures ∙ sym (flag_at a.n a.map.now a.f c.before.before.if1.false) ∙ z))
+    (λ z. c.if-flag-eq0.false (c.before.flag.ensures ∙ sym (flag_at a.n a.map.now a.f c.before.before.if-f-n.false) ∙ z))
 
 pub wrong_pair_spec : {M : Type 1} → statement M
 wrong_pair_spec = tie.close (tie.spec returns flag_requires returns_2 returns_3)

@@ -6,7 +6,7 @@ use lib.Count.{ones-le}
 use Rattle.code.proofs.payload.ones_of.Statement.{statement}
 use Rattle.code.proofs.payload.ones_of.Tie as tie
 
-cast_result : tie.Need-overflow-cast-result
+cast_result : tie.Need-overflow_cast-result
 cast_result c = omega (arith, ones-le 8 c.args.x (search rules))
 
 returns : tie.Need-returns

@@ -19,22 +19,22 @@ of_one (x ∷ y ∷ s) m e h b = absurd (omega (arith, h))
 one : (s : List ℕ) (m : ℕ) → m ≡ 2 → length s ≡ map_bytes (2 ^ m) → length s ≡ 1
 one s m e h = h ∙ ap (λ (k : ℕ). map_bytes (2 ^ k)) e
 
-shared_slice_read_result : tie.Need-shared-slice-read-result
+shared_slice_read_result : tie.Need-bounds-map-0
 shared_slice_read_result c =
     let a = c.before.before.args in
-    omega (arith, one a.map.now a.m c.before.if1.true c.before.before.requires.1)
+    omega (arith, one a.map.now a.m c.before.if-m-eq2.true c.before.before.requires.1)
 
-returns : tie.Need-returns
+returns : tie.Need-returns-then-m-eq2
 returns c =
     let a = c.before.before.args in
-    let b : get_or a.map.now 0 0 < 256 = omega (arith, c.shared-slice-known.given 0) in
-    of_one a.map.now a.m c.before.if1.true (one a.map.now a.m c.before.if1.true c.before.before.requires.1) b
+    let b : get_or a.map.now 0 0 < 256 = omega (arith, c.shared_slice_known-1.given 0) in
+    of_one a.map.now a.m c.before.if-m-eq2.true (one a.map.now a.m c.before.if-m-eq2.true c.before.before.requires.1) b
 
-returns_2 : tie.Need-returns-2
+returns_2 : tie.Need-returns
 returns_2 c =
     let a = c.before.args in
     let p : 2 ≤ a.m = c.before.requires.0 in
-    let q = c.if1.false in
+    let q = c.if-m-eq2.false in
     sym (whole_bytes a.m a.map.now (omega arith) c.before.requires.1)
 
 pub past_end_spec : {M : Type 1} → statement M

@@ -11,7 +11,7 @@ use Rattle.code.proofs.shape.size.Tie as tie
 shifted : (m : ℕ) → m ≤ 10 → (1 * 2 ^ m) % 2 ^ 64 ≡ 2 ^ m
 shifted m h = ap (λ (x : ℕ). x % 2 ^ 64) (one-mul (2 ^ m)) ∙ mod-eq_of_lt (pow-lt {i = m} {j = 64} (omega arith))
 
-shl_result : tie.Need-overflow-shl-result
+shl_result : tie.Need-overflow_shl-result
 shl_result c = search rules
 
 returns : tie.Need-returns

@@ -18,28 +18,28 @@ module _ {f g : ℕ} (i : ℕ) (q : g ≡ f) (x y : ℕ) where
   its : g ≡ i → x ≡ cond (eqb f i) x y
   its e = rw (eq-eqb f i (sym q ∙ e))
 
-named_requires : tie.Need-named-requires
+named_requires : tie.Need-named-f-requires
 named_requires c κs = search rules
 
-returns : tie.Need-returns
+returns : tie.Need-returns-then-f-i
 returns c =
     let t = c.before in
     let a = t.before.before.before.args in
-    other a.i t.named.ensures.0 (get_or a.w.now (two_at a.pairs.now (a.at + 2)) 0 ⊕ a.sum) a.sum c.if1.true
+    other a.i t.named-f.ensures.0 (get_or a.w.now (two_at a.pairs.now (a.at + 2)) 0 ⊕ a.sum) a.sum c.if-f-i.true
 
-add_named : tie.Need-overflow-add-named
+add_named : tie.Need-overflow_add-at
 add_named c = search rules
 
-named_requires_2 : tie.Need-named-requires-2
+named_requires_2 : tie.Need-named-e-requires
 named_requires_2 c κs = search rules
 
-bit_at_requires : tie.Need-bit-at-requires
+bit_at_requires : tie.Need-bit_at-bit-requires
 bit_at_requires c κs = search rules
 
 plus_requires : tie.Need-plus-requires
 plus_requires c κs = search rules
 
-returns_2 : tie.Need-returns-2
+returns_2 : tie.Need-returns
 returns_2 c =
     let b = c.before in
     let s = b.before in
@@ -47,8 +47,8 @@ returns_2 c =
     let t = e.before in
     let a = t.before.before.before.args in
     c.plus.ensures
-    ∙ ap (λ (x : ℕ). x ⊕ a.sum) (b.bit_at.ensures ∙ ap (λ (k : ℕ). get_or a.w.now k 0) s.named2.ensures.0)
-    ∙ its a.i t.named.ensures.0 (get_or a.w.now (two_at a.pairs.now (a.at + 2)) 0 ⊕ a.sum) a.sum e.if1.false
+    ∙ ap (λ (x : ℕ). x ⊕ a.sum) (b.bit_at-bit.ensures ∙ ap (λ (k : ℕ). get_or a.w.now k 0) s.named-e.ensures.0)
+    ∙ its a.i t.named-f.ensures.0 (get_or a.w.now (two_at a.pairs.now (a.at + 2)) 0 ⊕ a.sum) a.sum e.if-f-i.false
 
 pub add_pair_spec : {M : Type 1} → statement M
 add_pair_spec =

@@ -14,18 +14,18 @@ flip_one : (a : ℕ) → (a ≡ 0 → ⊥) → 0 ≡ flip a
 flip_one zero n = absurd (n refl)
 flip_one (suc a) n = refl
 
-returns : tie.Need-returns
+returns : tie.Need-returns-then-b-eq0
 returns c = search rules
 
-returns_2 : tie.Need-returns-2
+returns_2 : tie.Need-returns-then-a-eq0
 returns_2 c =
     let s = c.before.before.args in
-    ap flip (sym c.if2.true) ∙ flipped s.a s.b c.before.if1.false
+    ap flip (sym c.if-a-eq0.true) ∙ flipped s.a s.b c.before.if-b-eq0.false
 
-returns_3 : tie.Need-returns-3
+returns_3 : tie.Need-returns
 returns_3 c =
     let s = c.before.before.args in
-    flip_one s.a c.if2.false ∙ flipped s.a s.b c.before.if1.false
+    flip_one s.a c.if-a-eq0.false ∙ flipped s.a s.b c.before.if-b-eq0.false
 
 pub plus_spec : {M : Type 1} → statement M
 plus_spec = tie.close (tie.spec returns returns_2 returns_3)

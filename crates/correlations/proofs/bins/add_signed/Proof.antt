@@ -15,48 +15,48 @@ v s = to_z w16 (of_z w16 (y s))
 back : (s : tie.Start) → v s ≡ y s
 back s = to_z-of_z w16 (y s) s.ranges.y
 
-magnitude_of_requires : tie.Need-magnitude-of-requires
+magnitude_of_requires : tie.Need-magnitude_of-m-requires
 magnitude_of_requires c κs = search rules
 
-wrapping_sub_u32_requires : tie.Need-wrapping-sub-u32-requires
+wrapping_sub_u32_requires : tie.Need-wrapping_sub_u32-requires
 wrapping_sub_u32_requires c κs = search rules
 
-returns : tie.Need-returns
+returns : tie.Need-returns-then-y-lt0
 returns c =
     let g = c.before.before.before in
     let s = g.before in
-    below_kept (v s) (y s) (back s) g.magnitude-of.ensures s.args.b
-    c.before.before.if1.true c.before.if2.true c.wrapping-sub-u32.type-inv c.wrapping-sub-u32.ensures
+    below_kept (v s) (y s) (back s) g.magnitude_of-m.ensures s.args.b
+    c.before.before.if-b-eq0.true c.before.if-y-lt0.true c.wrapping_sub_u32.type_inv c.wrapping_sub_u32.ensures
 
-wrapping_add_u32_requires : tie.Need-wrapping-add-u32-requires
+wrapping_add_u32_requires : tie.Need-wrapping_add_u32-requires
 wrapping_add_u32_requires c κs = search rules
 
-returns_2 : tie.Need-returns-2
+returns_2 : tie.Need-returns-then-b-eq0
 returns_2 c =
     let g = c.before.before.before in
     let s = g.before in
-    above_kept (v s) (y s) (back s) g.magnitude-of.ensures s.args.b
-    c.before.before.if1.true c.before.if2.false c.wrapping-add-u32.ensures
+    above_kept (v s) (y s) (back s) g.magnitude_of-m.ensures s.args.b
+    c.before.before.if-b-eq0.true c.before.if-y-lt0.false c.wrapping_add_u32.ensures
 
-wrapping_add_u32_requires_2 : tie.Need-wrapping-add-u32-requires-2
+wrapping_add_u32_requires_2 : tie.Need-wrapping_add_u32-requires-then-y-lt0-2
 wrapping_add_u32_requires_2 c κs = search rules
 
-returns_3 : tie.Need-returns-3
+returns_3 : tie.Need-returns-then-y-lt0-2
 returns_3 c =
     let g = c.before.before.before in
     let s = g.before in
-    below_negated (v s) (y s) (back s) g.magnitude-of.ensures s.args.b
-    (omega arith) c.before.if3.true c.wrapping-add-u322.ensures
+    below_negated (v s) (y s) (back s) g.magnitude_of-m.ensures s.args.b
+    (omega arith) c.before.if-y-lt0-2.true c.wrapping_add_u32-then-y-lt0-2.ensures
 
-wrapping_sub_u32_requires_2 : tie.Need-wrapping-sub-u32-requires-2
+wrapping_sub_u32_requires_2 : tie.Need-wrapping_sub_u32-requires-2
 wrapping_sub_u32_requires_2 c κs = search rules
 
-returns_4 : tie.Need-returns-4
+returns_4 : tie.Need-returns
 returns_4 c =
     let g = c.before.before.before in
     let s = g.before in
-    above_negated (v s) (y s) (back s) g.magnitude-of.ensures s.args.b
-    (omega arith) c.before.if3.false c.wrapping-sub-u322.type-inv c.wrapping-sub-u322.ensures
+    above_negated (v s) (y s) (back s) g.magnitude_of-m.ensures s.args.b
+    (omega arith) c.before.if-y-lt0-2.false c.wrapping_sub_u32-2.type_inv c.wrapping_sub_u32-2.ensures
 
 pub add_signed_spec : {M : Type 1} → statement M
 add_signed_spec =

@@ -30,16 +30,16 @@ module _ (t : ℕ) where
   Start = lts.Start (claims t) (bins_at t) bins.Post
 
   abbrev Long : Type 0
-  Long = lts.Else2 (claims t) (bins_at t) bins.Post
+  Long = lts.Else-r-eq2 (claims t) (bins_at t) bins.Post
 
   abbrev Crossed : Type 0
-  Crossed = lts.After-cross-halves (claims t) (bins_at t) bins.Post
+  Crossed = lts.After-cross_halves (claims t) (bins_at t) bins.Post
 
   abbrev First : Type 0
   First = lts.After-fold (claims t) (bins_at t) bins.Post
 
   abbrev Second : Type 0
-  Second = lts.After-fold2 (claims t) (bins_at t) bins.Post
+  Second = lts.After-fold-2 (claims t) (bins_at t) bins.Post
 
   abbrev start : Long → Start
   start c = c.before.before.before
@@ -60,7 +60,7 @@ module _ (t : ℕ) where
   h c = (start c).args.h
 
   some : (c : Long) → 0 < r c
-  some c = omega (arith, c.before.if1.false)
+  some c = omega (arith, c.before.if-r-eq0.false)
 
   less : (c : Long) → r c - 1 < t
   less c = omega (arith, some c, (start c).requires.0)
@@ -77,10 +77,10 @@ module _ (t : ℕ) where
 
   -- the slice with the sums and the differences, and its halves: the second one as it is, and the first one once it is folded
   abbrev M : Crossed → List ℕ
-  M c = c.cross-halves.new.0
+  M c = c.cross_halves.new.0
 
   m_long : (c : Crossed) → length (M c) ≡ h (long c) + h (long c)
-  m_long c = c.cross-halves.auto.0 ∙ whole_long (long c)
+  m_long c = c.cross_halves.auto.0 ∙ whole_long (long c)
 
   front_long : (c : Crossed) → length (take (h (long c)) (M c)) ≡ h (long c)
   front_long c = length-take (h (long c)) (M c) ∙ omega (arith, m_long c)
@@ -105,35 +105,35 @@ module _ (t : ℕ) where
   lent c = second_lent (A c) (D c) (h (long (crossing c))) (a_long c)
 
   abbrev B : Second → List ℕ
-  B c = c.fold2.new.0
+  B c = c.fold-2.new.0
 
 -- ---- the needs
-returns : (t : ℕ) → lts.Need-returns (claims t) (bins_at t) bins.Post
+returns : (t : ℕ) → lts.Need-returns-then-r-eq0 (claims t) (bins_at t) bins.Post
 unfolding folded
-returns t c zs e = e ∙ ap (λ (k : ℕ). map wrapped (folded k zs)) (sym c.if1.true)
+returns t c zs e = e ∙ ap (λ (k : ℕ). map wrapped (folded k zs)) (sym c.if-r-eq0.true)
 
-fold_four_requires : (t : ℕ) → lts.Need-fold-four-requires (claims t) (bins_at t) bins.Post
+fold_four_requires : (t : ℕ) → lts.Need-fold_four-requires (claims t) (bins_at t) bins.Post
 fold_four_requires t c κs =
-    c.before.before.before.before.requires.1.0 ∙ ap (λ (k : ℕ). 2 ^ k) c.before.if2.true
+    c.before.before.before.before.requires.1.0 ∙ ap (λ (k : ℕ). 2 ^ k) c.before.if-r-eq2.true
 
-same_length : (t : ℕ) → lts.Need-same-length (claims t) (bins_at t) bins.Post
+same_length : (t : ℕ) → lts.Need-shape_of-s-then-r-eq2 (claims t) (bins_at t) bins.Post
 same_length t c = search rules
 
-returns_2 : (t : ℕ) → lts.Need-returns-2 (claims t) (bins_at t) bins.Post
+returns_2 : (t : ℕ) → lts.Need-returns-then-r-eq2 (claims t) (bins_at t) bins.Post
 returns_2 t c =
     let f = c.before.before in
-    rw f.before.before.if2.true f.fold-four.ensures
+    rw f.before.before.if-r-eq2.true f.fold_four.ensures
 
-cross_halves_requires : (t : ℕ) → lts.Need-cross-halves-requires (claims t) (bins_at t) bins.Post
+cross_halves_requires : (t : ℕ) → lts.Need-cross_halves-requires (claims t) (bins_at t) bins.Post
 cross_halves_requires t c κs = whole_long t c.before
 
-slice_relend_prefix_fold : (t : ℕ) → lts.Need-slice-relend-prefix-fold (claims t) (bins_at t) bins.Post
+slice_relend_prefix_fold : (t : ℕ) → lts.Need-slice_bounds-fold-end (claims t) (bins_at t) bins.Post
 slice_relend_prefix_fold t c = omega (arith, m_long t c.before.before)
 
-slice_aggregate_fold : (t : ℕ) → lts.Need-slice-aggregate-fold (claims t) (bins_at t) bins.Post
+slice_aggregate_fold : (t : ℕ) → lts.Need-slice_bounds-fold-end-2 (claims t) (bins_at t) bins.Post
 slice_aggregate_fold t c = sym (front_long t c.before.before.before)
 
-sub_fold : (t : ℕ) → lts.Need-overflow-sub-fold (claims t) (bins_at t) bins.Post
+sub_fold : (t : ℕ) → lts.Need-overflow_sub-r (claims t) (bins_at t) bins.Post
 sub_fold t c = omega (arith, some t (long t c.before.before.before))
 
 fold_requires : (t : ℕ) → lts.Need-fold-requires (claims t) (bins_at t) bins.Post
@@ -142,10 +142,10 @@ fold_requires t c κs =
     let l : Long t = long t a in
     (less t l, taken t l (take (h t l) (M t a)) (front_long t a))
 
-mul_fold : (t : ℕ) → lts.Need-overflow-mul-fold (claims t) (bins_at t) bins.Post
+mul_fold : (t : ℕ) → lts.Need-offset_bounds-s-h (claims t) (bins_at t) bins.Post
 mul_fold t c = search rules
 
-sub_fold_2 : (t : ℕ) → lts.Need-overflow-sub-fold-2 (claims t) (bins_at t) bins.Post
+sub_fold_2 : (t : ℕ) → lts.Need-slice_bounds-fold-count (claims t) (bins_at t) bins.Post
 sub_fold_2 t c = omega (arith, both_long t c.before.before)
 
 part_fold_start : (t : ℕ) → lts.Need-slice-bounds-fold-start (claims t) (bins_at t) bins.Post
@@ -154,7 +154,7 @@ part_fold_start t c = omega (arith, both_long t c.before.before)
 part_fold_end : (t : ℕ) → lts.Need-slice-bounds-fold-end (claims t) (bins_at t) bins.Post
 part_fold_end t c = omega arith
 
-sub_fold_3 : (t : ℕ) → lts.Need-overflow-sub-fold-3 (claims t) (bins_at t) bins.Post
+sub_fold_3 : (t : ℕ) → lts.Need-overflow_sub-r-2 (claims t) (bins_at t) bins.Post
 sub_fold_3 t c = omega (arith, some t (long t (crossing t c.before.before.before)))
 
 fold_requires_2 : (t : ℕ) → lts.Need-fold-requires-2 (claims t) (bins_at t) bins.Post
@@ -163,27 +163,27 @@ fold_requires_2 t c κs =
     let l : Long t = long t (crossing t f) in
     (less t l, rw (lent t f) (taken t l (D t f) (d_long t f)))
 
-same_length_2 : (t : ℕ) → lts.Need-same-length-2 (claims t) (bins_at t) bins.Post
+same_length_2 : (t : ℕ) → lts.Need-shape_of-s (claims t) (bins_at t) bins.Post
 same_length_2 t c =
     let e : Second t = c.before.before in
     let f : First t = first t e in
     let l : Long t = long t (crossing t f) in
     ap length (second_put (A t f) (D t f) (h t l) (a_long t f) (B t e))
     ∙ length-append (A t f) (B t e)
-    ∙ omega (arith, a_long t f, e.fold2.auto.0 ∙ ap length (lent t f) ∙ d_long t f, whole_long t l)
+    ∙ omega (arith, a_long t f, e.fold-2.auto.0 ∙ ap length (lent t f) ∙ d_long t f, whole_long t l)
 
-returns_3 : (t : ℕ) → lts.Need-returns-3 (claims t) (bins_at t) bins.Post
+returns_3 : (t : ℕ) → lts.Need-returns (claims t) (bins_at t) bins.Post
 returns_3 t c zs q =
     let e : Second t = c.before.before in
     let f : First t = first t e in
     let a : Crossed t = crossing t f in
     let l : Long t = long t a in
     second_put (A t f) (D t f) (h t l) (a_long t f) (B t e)
-    ∙ halves_folded (r t l) (h t l) (start t l).pre.1.1 (some t l) (start t l).pre.1.0 a.cross-halves.ensures f.fold.ensures
-    (λ us p. e.fold2.ensures us (lent t f ∙ p)) zs q
+    ∙ halves_folded (r t l) (h t l) (start t l).requires.1.1 (some t l) (start t l).requires.1.0 a.cross_halves.ensures f.fold.ensures
+    (λ us p. e.fold-2.ensures us (lent t f ∙ p)) zs q
 
-pub +fold-spec : {M : Type 1} → statement M
-+fold-spec = close μ-bins λ t. lts.spec (claims t) (bins_at t) bins.Post
+pub +fold_spec : {M : Type 1} → statement M
++fold_spec = close μ-bins λ t. lts.spec (claims t) (bins_at t) bins.Post
     (returns t)
     (fold_four_requires t)
     (same_length t)

@@ -4,75 +4,75 @@ use Rattle.correlations.proofs.Crossing.{Crossing, crossing_none, crossing_turn,
 use Rattle.correlations.proofs.fold.cross_halves.Statement.{statement}
 use Rattle.correlations.proofs.fold.cross_halves.Tie as tie
 
-abbrev invariant-loop : tie.invariant-loop
-invariant-loop s₀ h i₀ s i = Crossing h s₀ s i
+abbrev invariant-loop-i : tie.invariant-loop-i
+invariant-loop-i s₀ h i₀ s i = Crossing h s₀ s i
 
-abbrev decreases-loop : tie.decreases-loop
-decreases-loop s₀ h i₀ s i = h - i
+abbrev decreases-loop-i : tie.decreases-loop-i
+decreases-loop-i s₀ h i₀ s i = h - i
 
-loop_holds : tie.Need-loop-init invariant-loop decreases-loop
+loop_holds : tie.Need-loop-i-init invariant-loop-i decreases-loop-i
 loop_holds c = crossing_none c.before.args.h c.before.args.s.now
 
-add_j : tie.Need-overflow-add-j invariant-loop decreases-loop
+add_j : tie.Need-overflow_add-j invariant-loop-i decreases-loop-i
 add_j c = search rules
 
-mul_x : tie.Need-overflow-mul-x invariant-loop decreases-loop
+mul_x : tie.Need-offset_bounds-s-i invariant-loop-i decreases-loop-i
 mul_x c = search rules
 
-slice_read_x : tie.Need-slice-read-x invariant-loop decreases-loop
+slice_read_x : tie.Need-bounds-s-i invariant-loop-i decreases-loop-i
 slice_read_x c = search rules
 
-mul_y : tie.Need-overflow-mul-y invariant-loop decreases-loop
+mul_y : tie.Need-offset_bounds-s-j invariant-loop-i decreases-loop-i
 mul_y c = search rules
 
-slice_read_y : tie.Need-slice-read-y invariant-loop decreases-loop
+slice_read_y : tie.Need-bounds-s-j invariant-loop-i decreases-loop-i
 slice_read_y c = search rules
 
-wrapping_add_u32_requires : tie.Need-wrapping-add-u32-requires invariant-loop decreases-loop
+wrapping_add_u32_requires : tie.Need-wrapping_add_u32-requires invariant-loop-i decreases-loop-i
 wrapping_add_u32_requires c κs = search rules
 
-mul_s : tie.Need-overflow-mul-s invariant-loop decreases-loop
+mul_s : tie.Need-offset_bounds-s-i-in-loop-i invariant-loop-i decreases-loop-i
 mul_s c = search rules
 
-slice_write_s : tie.Need-slice-write-s invariant-loop decreases-loop
+slice_write_s : tie.Need-bounds-s-i-in-loop-i invariant-loop-i decreases-loop-i
 slice_write_s c = omega arith
 
-wrapping_sub_u32_requires : tie.Need-wrapping-sub-u32-requires invariant-loop decreases-loop
+wrapping_sub_u32_requires : tie.Need-wrapping_sub_u32-requires invariant-loop-i decreases-loop-i
 wrapping_sub_u32_requires c κs = search rules
 
-mul_s_2 : tie.Need-overflow-mul-s-2 invariant-loop decreases-loop
+mul_s_2 : tie.Need-offset_bounds-s-j-in-loop-i invariant-loop-i decreases-loop-i
 mul_s_2 c = search rules
 
-slice_write_s_2 : tie.Need-slice-write-s-2 invariant-loop decreases-loop
+slice_write_s_2 : tie.Need-bounds-s-j-in-loop-i invariant-loop-i decreases-loop-i
 slice_write_s_2 c = simp length-set (omega arith)
 
-add_i : tie.Need-overflow-add-i invariant-loop decreases-loop
+add_i : tie.Need-overflow_add-i invariant-loop-i decreases-loop-i
 add_i c = search rules
 
-loop_less : tie.Need-loop-smaller invariant-loop decreases-loop
+loop_less : tie.Need-loop-i-smaller invariant-loop-i decreases-loop-i
 loop_less c = search rules
 
-loop_again : tie.Need-loop-preserved invariant-loop decreases-loop
+loop_again : tie.Need-loop-i-preserved invariant-loop-i decreases-loop-i
 loop_again c =
     let l = c.before.before.before.before.before in
     let s = l.before.before in
-    crossing_turn s.args.h s.args.s.now s.requires l.loop.invariant c.before.before.before.before.loop-test.true
-    (record { sum = c.before.wrapping-add-u32.ensures; difference = c.wrapping-sub-u32.ensures; small = c.wrapping-sub-u32.type-inv })
+    crossing_turn s.args.h s.args.s.now s.requires l.loop-i.invariant c.before.before.before.before.loop-i-test.true
+    (record { sum = c.before.wrapping_add_u32.ensures; difference = c.wrapping_sub_u32.ensures; small = c.wrapping_sub_u32.type_inv })
 
-same_length : tie.Need-same-length invariant-loop decreases-loop
+same_length : tie.Need-shape_of-s invariant-loop-i decreases-loop-i
 same_length c = search rules
 
-returns : tie.Need-returns invariant-loop decreases-loop
+returns : tie.Need-returns invariant-loop-i decreases-loop-i
 returns c =
     let s = c.before.before.before in
-    crossing_done s.args.h s.args.s.now s.requires c.before.loop.invariant (omega arith)
+    crossing_done s.args.h s.args.s.now s.requires c.before.loop-i.invariant (omega arith)
 
 pub cross_halves_spec : {M : Type 1} → statement M
 cross_halves_spec =
     tie.close
     (tie.spec
-    invariant-loop
-    decreases-loop
+    invariant-loop-i
+    decreases-loop-i
     loop_holds
     add_j
     mul_x

@@ -13,20 +13,20 @@ use Rattle.job_fields.proofs.fields.frame_number.Tie as tie
 bit : (c : tie.Start) → c.args.at.fields / 4 % 2 ≡ fields c.args.bytes.now / 4 % 2
 bit c = ap (λ (f : ℕ). f / 4 % 2) c.requires.fields_are
 
-stands : (c : tie.Else1) → fields c.before.before.before.args.bytes.now / 4 % 2 ≡ 0 → ⊥
-stands c q = c.if1.false (bit c.before.before.before ∙ q)
+stands : (c : tie.Else-at-eq0) → fields c.before.before.before.args.bytes.now / 4 % 2 ≡ 0 → ⊥
+stands c q = c.if-at-eq0.false (bit c.before.before.before ∙ q)
 
 -- where the field begins
-place : (c : tie.After-frame-at) → c.frame_at.result ≡ frame_at (fields c.before.before.before.before.args.bytes.now)
+place : (c : tie.After-frame_at) → c.frame_at.result ≡ frame_at (fields c.before.before.before.before.args.bytes.now)
 place c = c.frame_at.ensures.0 ∙ ap frame_at c.before.before.before.before.requires.fields_are
 
-returns : tie.Need-returns
+returns : tie.Need-returns-then-at-eq0
 returns c =
     let s = c.before.before.before in
     let b = s.args.bytes.now in
-    if_absent (fields b / 4 % 2) (four_at b (frame_at (fields b))) 0 (sym (bit s) ∙ c.if1.true)
+    if_absent (fields b / 4 % 2) (four_at b (frame_at (fields b))) 0 (sym (bit s) ∙ c.if-at-eq0.true)
 
-frame_at_requires : tie.Need-frame-at-requires
+frame_at_requires : tie.Need-frame_at-requires
 frame_at_requires c κs = search rules
 
 four_requires : tie.Need-four-requires
@@ -34,7 +34,7 @@ four_requires c κs =
     let s = c.before.before.before.before in
     subst (λ (at : ℕ). at + 3 < length s.args.bytes.now) (sym (place c)) (frame_within s.requires.shaped (stands c.before))
 
-returns_2 : tie.Need-returns-2
+returns_2 : tie.Need-returns
 returns_2 c =
     let p = c.before in
     let s = p.before.before.before.before in

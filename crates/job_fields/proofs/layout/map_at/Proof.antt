@@ -12,10 +12,10 @@ three_bits x =
     let one : x % 8 ≡ x % 4 + 4 * (x / 4 % 2) = omega arith in
     omega arith
 
-cast_result : tie.Need-overflow-cast-result
+cast_result : tie.Need-overflow_cast-result
 cast_result c = search rules
 
-add_result : tie.Need-overflow-add-result
+add_result : tie.Need-overflow_add-result
 add_result c = search rules
 
 returns : tie.Need-returns

@@ -14,7 +14,7 @@ signed_requires : tie.Need-signed-requires
 signed_requires c κs = search rules
 
 returns : tie.Need-returns
-returns c = to_z-of_z w16 c.signed.result (record { sfits = c.signed.type-inv }) ∙ c.signed.ensures ∙ ap signed16 c.before.two.ensures.0
+returns c = to_z-of_z w16 c.signed.result (record { sfits = c.signed.type_inv }) ∙ c.signed.ensures ∙ ap signed16 c.before.two.ensures.0
 
 pub soft_value_spec : {M : Type 1} → statement M
 soft_value_spec = tie.close (tie.spec two_requires signed_requires returns)

@@ -14,13 +14,13 @@ use Rattle.live.proofs.Turns.{holds}
 use Rattle.live.proofs.Live.freeze.Statement.{statement}
 use Rattle.live.proofs.Live.freeze.Tie as tie
 
-put_children_requires : tie.Need-put-children-requires
+put_children_requires : tie.Need-put_children-count-requires
 put_children_requires c κs = search rules
 
 returns : tie.Need-returns
 returns c =
     let s = c.before.before.before.before.args in
-    let p = c.put-children.ensures in
+    let p = c.put_children-count.ensures in
     position 1 s.l s.bits.now s.costs.now s.costs.now s.self _ (search rules) (omega arith)
     (holds _ s.l _ p.long (omega arith) p.few p.are)
     (ap (λ (xs : List ℕ). lost_with s.self.lost xs) (sym (none_lost 0 s.l (entries s.self) s.bits.now s.costs.now s.costs.now s.self.count (omega arith))))

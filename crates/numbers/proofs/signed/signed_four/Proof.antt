@@ -14,7 +14,7 @@ signed_requires : tie.Need-signed-requires
 signed_requires c κs = search rules
 
 returns : tie.Need-returns
-returns c = to_z-of_z w32 c.signed.result (record { sfits = c.signed.type-inv }) ∙ c.signed.ensures ∙ ap signed32 c.before.four.ensures
+returns c = to_z-of_z w32 c.signed.result (record { sfits = c.signed.type_inv }) ∙ c.signed.ensures ∙ ap signed32 c.before.four.ensures
 
 pub signed_four_spec : {M : Type 1} → statement M
 signed_four_spec = tie.close (tie.spec four_requires signed_requires returns)

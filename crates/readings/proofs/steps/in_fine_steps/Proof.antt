@@ -11,14 +11,14 @@ use Rattle.readings.proofs.steps.in_fine_steps.Tie as tie
 
 -- what 32 bits hold, 64 bits hold
 owned : (c : tie.Start) → T (fits binary32 c.args.x)
-owned c = subst T (sym c.well-formed.0.1) tt
+owned c = subst T (sym c.well_formed.0.1) tt
 
-float_to_float_result : tie.Need-float-to-float-result
+float_to_float_result : tie.Need-float_to_float-result
 float_to_float_result c =
     let x = c.before.args.x in
     and_i (fits binary64 x) (not (is_nan x)) (fits_widens x (owned c.before)) (fine_reads x c.before.requires)
 
-float_to_bits_result : tie.Need-float-to-bits-result
+float_to_bits_result : tie.Need-float_to_bits-result
 float_to_bits_result c = moved_reads c.before.args.x c.before.requires
 
 returns : tie.Need-returns

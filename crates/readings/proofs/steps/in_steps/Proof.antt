@@ -34,7 +34,7 @@ minus b w e h = ap (λ (k : ℕ). neg_ℤ (pos k)) (e ∙ apart b) ∙ sym (ap (
 
 -- what owning an `f32` tells: the format holds it
 owned : (c : tie.Start) → T (fits binary32 c.args.x)
-owned c = subst T (sym c.well-formed.0.1) tt
+owned c = subst T (sym c.well_formed.0.1) tt
 
 -- ---- the product, and the bits under its sign
 abbrev product : tie.Start → Float
@@ -43,46 +43,46 @@ product c = mul binary32 c.args.x sixty_four
 abbrev low : tie.Start → ℕ
 low c = to_bits binary32 (product c) % 2 ^ 31
 
-float_to_bits_bits : tie.Need-float-to-bits-bits
+float_to_bits_bits : tie.Need-float_to_bits-bits
 float_to_bits_bits c = product_reads c.args.x c.requires
 
-float_from_bits_whole : tie.Need-float-from-bits-whole
+float_from_bits_whole : tie.Need-float_from_bits-bits
 float_from_bits_whole c = under_sign (product c) (mul-fits binary32 c.args.x sixty_four) (product_reads c.args.x c.requires)
 
 reads : (c : tie.Start) → T (not (is_nan (of_bits binary32 (low c))))
 reads c = subst (λ (t : Bool). T (not t)) (nan_bits_is binary32 (low c)) (float_from_bits_whole c)
 
-whole_requires : tie.Need-whole-requires
+whole_requires : tie.Need-whole-w-requires
 whole_requires c κs = is_magnitude (low c) (omega arith) (reads c)
 
 -- the whole number by these bits
-found : (c : tie.After-whole) → c.whole.result ≡ held_whole (low c.before)
-found c = c.whole.ensures.0 ∙ ap held_whole (same_bits (low c.before) (omega arith) (reads c.before))
+found : (c : tie.After-whole-w) → c.whole-w.result ≡ held_whole (low c.before)
+found c = c.whole-w.ensures.0 ∙ ap held_whole (same_bits (low c.before) (omega arith) (reads c.before))
 
-short : (c : tie.After-whole) → c.whole.result < 32768
-short c = omega (arith, c.whole.ensures.1)
+short : (c : tie.After-whole-w) → c.whole-w.result < 32768
+short c = omega (arith, c.whole-w.ensures.1)
 
-cast_result : tie.Need-overflow-cast-result
+cast_result : tie.Need-overflow_cast-result
 cast_result c = search rules
 
-returns : tie.Need-returns
+returns : tie.Need-returns-then-bits-lt2147483648
 returns c =
     let a = c.before in
     let s = a.before in
-    to_z_pos w16 a.whole.result (short a) ∙ plus _ a.whole.result (found a) c.if1.true ∙ product_soft s.args.x (owned s) s.requires
+    to_z_pos w16 a.whole-w.result (short a) ∙ plus _ a.whole-w.result (found a) c.if-bits-lt2147483648.true ∙ product_soft s.args.x (owned s) s.requires
 
-cast_result_2 : tie.Need-overflow-cast-result-2
+cast_result_2 : tie.Need-overflow_cast-result-2
 cast_result_2 c = search rules
 
-sub_result : tie.Need-overflow-sub-result
-sub_result c = minus_fits w16 c.before.whole.result (short c.before)
+sub_result : tie.Need-overflow_sub-result
+sub_result c = minus_fits w16 c.before.whole-w.result (short c.before)
 
-returns_2 : tie.Need-returns-2
+returns_2 : tie.Need-returns
 returns_2 c =
     let a = c.before in
     let s = a.before in
-    to_z-of_z w16 _ (sub_result c) ∙ minus_is w16 a.whole.result (short a)
-    ∙ minus _ a.whole.result (found a) c.if1.false ∙ product_soft s.args.x (owned s) s.requires
+    to_z-of_z w16 _ (sub_result c) ∙ minus_is w16 a.whole-w.result (short a)
+    ∙ minus _ a.whole-w.result (found a) c.if-bits-lt2147483648.false ∙ product_soft s.args.x (owned s) s.requires
 
 pub in_steps_spec : {M : Type 1} → statement M
 in_steps_spec =

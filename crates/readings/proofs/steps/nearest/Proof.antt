@@ -5,13 +5,13 @@ use Rattle.readings.specs.Rounding.{by_adding}
 use Rattle.readings.proofs.steps.nearest.Statement.{statement}
 use Rattle.readings.proofs.steps.nearest.Tie as tie
 
-add_result : tie.Need-overflow-add-result
+add_result : tie.Need-overflow_add-result
 add_result c = search rules
 
-add_result_2 : tie.Need-overflow-add-result-2
+add_result_2 : tie.Need-overflow_add-result-2
 add_result_2 c = search rules
 
-cast_result : tie.Need-overflow-cast-result
+cast_result : tie.Need-overflow_cast-result
 cast_result c = search rules
 
 returns : tie.Need-returns

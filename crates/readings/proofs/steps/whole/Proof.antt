@@ -20,23 +20,23 @@ rounded_as b k r e n h =
     free : (n : ℕ) → n ≤ 2047 → n ≡ min 2047 n
     free n h = omega arith
 
-at_most_requires : tie.Need-at-most-requires
+at_most_requires : tie.Need-at_most-requires
 at_most_requires c κs = c.requires
 
-at_least_requires : tie.Need-at-least-requires
+at_least_requires : tie.Need-at_least-y-requires
 at_least_requires c κs = c.at_most.ensures.1
 
-in_fine_steps_requires : tie.Need-in-fine-steps-requires
-in_fine_steps_requires c κs = c.at_least.ensures.1
+in_fine_steps_requires : tie.Need-in_fine_steps-requires
+in_fine_steps_requires c κs = c.at_least-y.ensures.1
 
 nearest_requires : tie.Need-nearest-requires
-nearest_requires c κs = c.in-fine-steps.ensures.1
+nearest_requires c κs = c.in_fine_steps.ensures.1
 
 returns : tie.Need-returns
 returns c =
     let n = c.nearest in
-    let f = c.before.in-fine-steps in
-    let l = c.before.before.at_least in
+    let f = c.before.in_fine_steps in
+    let l = c.before.before.at_least-y in
     let h = c.before.before.before.at_most in (
       rounded_as (to_bits binary32 l.result) f.result n.result f.ensures.0 n.ensures.0 n.ensures.1 ∙ l.ensures.0 ∙ h.ensures.0,
       n.ensures.1,

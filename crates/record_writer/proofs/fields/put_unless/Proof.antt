@@ -8,23 +8,23 @@ use Rattle.laws.specs.WrittenForm.{left_out, stands}
 use Rattle.record_writer.proofs.fields.put_unless.Statement.{statement}
 use Rattle.record_writer.proofs.fields.put_unless.Tie as tie
 
-returns : tie.Need-returns
+returns : tie.Need-returns-then-x-absence
 returns c =
     let a = c.before.before.args in
-    (put_same (put_none a.at a.out.now) (sym (ap (field_bytes a.count) (left_out a.absence a.x c.if1.true))), omega arith)
+    (put_same (put_none a.at a.out.now) (sym (ap (field_bytes a.count) (left_out a.absence a.x c.if-x-absence.true))), omega arith)
 
-put_low_requires : tie.Need-put-low-requires
+put_low_requires : tie.Need-put_low-requires
 put_low_requires c κs = search rules
 
-same_length : tie.Need-same-length
+same_length : tie.Need-shape_of-out
 same_length c = search rules
 
-returns_2 : tie.Need-returns-2
+returns_2 : tie.Need-returns
 returns_2 c =
     let put = c.before.before in
     let test = put.before.before in
     let a = test.before.before.args in
-    (put_same put.put_low.ensures.0 (sym (ap (field_bytes a.count) (stands a.absence a.x test.if1.false))), put.put_low.ensures.1)
+    (put_same put.put_low.ensures.0 (sym (ap (field_bytes a.count) (stands a.absence a.x test.if-x-absence.false))), put.put_low.ensures.1)
 
 pub put_unless_spec : {M : Type 1} → statement M
 put_unless_spec =

@@ -17,36 +17,36 @@ bit : (c : tie.Start) → c.args.at.fields / 2 % 2 ≡ fields c.args.bytes.now /
 bit c = ap (λ (f : ℕ). f / 2 % 2) c.requires.fields_are
 
 -- where the field begins
-place : (c : tie.After-ceiling-at) → c.ceiling-at.result ≡ ceiling_at (fields c.before.before.before.before.args.bytes.now)
-place c = c.ceiling-at.ensures.0 ∙ ap ceiling_at c.before.before.before.before.requires.fields_are
+place : (c : tie.After-ceiling_at) → c.ceiling_at.result ≡ ceiling_at (fields c.before.before.before.before.args.bytes.now)
+place c = c.ceiling_at.ensures.0 ∙ ap ceiling_at c.before.before.before.before.requires.fields_are
 
-first_score_requires : tie.Need-first-score-requires
+first_score_requires : tie.Need-first_score-requires
 first_score_requires c κs = search rules
 
-returns : tie.Need-returns
+returns : tie.Need-returns-then-at-eq0
 returns c =
     let t = c.before in
     let s = t.before.before.before in
     let b = s.args.bytes.now in
-    to_z-of_z w32 c.first-score.result (record { sfits = c.first-score.type-inv }) ∙ c.first-score.ensures
-    ∙ if_absent (fields b / 2 % 2) (signed32 (four_at b (ceiling_at (fields b)))) (first_score (result_scores b)) (sym (bit s) ∙ t.if1.true)
+    to_z-of_z w32 c.first_score.result (record { sfits = c.first_score.type_inv }) ∙ c.first_score.ensures
+    ∙ if_absent (fields b / 2 % 2) (signed32 (four_at b (ceiling_at (fields b)))) (first_score (result_scores b)) (sym (bit s) ∙ t.if-at-eq0.true)
 
-ceiling_at_requires : tie.Need-ceiling-at-requires
+ceiling_at_requires : tie.Need-ceiling_at-requires
 ceiling_at_requires c κs = search rules
 
-signed_four_requires : tie.Need-signed-four-requires
+signed_four_requires : tie.Need-signed_four-requires
 signed_four_requires c κs =
     let s = c.before.before.before.before in
-    omega (arith, place c, ceiling_within s.requires.shaped (λ q. c.before.if1.false (bit s ∙ q)))
+    omega (arith, place c, ceiling_within s.requires.shaped (λ q. c.before.if-at-eq0.false (bit s ∙ q)))
 
-returns_2 : tie.Need-returns-2
+returns_2 : tie.Need-returns
 returns_2 c =
     let p = c.before in
     let e = p.before in
     let s = e.before.before.before in
     let b = s.args.bytes.now in
-    to_z-of_z w32 c.signed-four.result (record { sfits = c.signed-four.type-inv }) ∙ c.signed-four.ensures ∙ ap (λ (k : ℕ). signed32 (four_at b k)) (place p)
-    ∙ if_present_lem (fields b / 2 % 2) (signed32 (four_at b (ceiling_at (fields b)))) (first_score (result_scores b)) (λ q. e.if1.false (bit s ∙ q))
+    to_z-of_z w32 c.signed_four.result (record { sfits = c.signed_four.type_inv }) ∙ c.signed_four.ensures ∙ ap (λ (k : ℕ). signed32 (four_at b k)) (place p)
+    ∙ if_present_lem (fields b / 2 % 2) (signed32 (four_at b (ceiling_at (fields b)))) (first_score (result_scores b)) (λ q. e.if-at-eq0.false (bit s ∙ q))
 
 pub ceiling_of_spec : {M : Type 1} → statement M
 ceiling_of_spec =

@@ -9,13 +9,13 @@ use Rattle.result_fields.specs.Laid.{first_within, first_is}
 use mir.Syntax.{w32}
 use mir.ValLaws.{to_z-of_z}
 
-signed_four_requires : tie.Need-signed-four-requires
+signed_four_requires : tie.Need-signed_four-requires
 signed_four_requires c κs = let s = c.before in omega (arith, s.requires.scores_begin, first_within s.requires.shaped)
 
 returns : tie.Need-returns
 returns c =
     let s = c.before.before in
-    to_z-of_z w32 c.signed-four.result (record { sfits = c.signed-four.type-inv }) ∙ c.signed-four.ensures
+    to_z-of_z w32 c.signed_four.result (record { sfits = c.signed_four.type_inv }) ∙ c.signed_four.ensures
     ∙ ap (λ (k : ℕ). signed32 (four_at s.args.bytes.now k)) s.requires.scores_begin
     ∙ first_is s.requires.shaped
 

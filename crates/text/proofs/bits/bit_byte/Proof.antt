@@ -9,11 +9,11 @@ one : (b : ℕ) → (b ≡ 0 → ⊥) → 49 ≡ bit_byte b
 one zero x = absurd (x refl)
 one (suc b) x = refl
 
-returns : tie.Need-returns
-returns c = rw c.if1.true
+returns : tie.Need-returns-then-bit-eq0
+returns c = rw c.if-bit-eq0.true
 
-returns_2 : tie.Need-returns-2
-returns_2 c = one c.before.args.bit c.if1.false
+returns_2 : tie.Need-returns
+returns_2 c = one c.before.args.bit c.if-bit-eq0.false
 
 pub bit_byte_spec : {M : Type 1} → statement M
 bit_byte_spec = tie.close (tie.spec returns returns_2)

@@ -33,51 +33,51 @@ claims t = (digit-reads.Asked, digit-reads.Learnt, put-byte-reads.Asked, put-byt
 digit_requires : (t : ℕ) → put-number-lts.Need-digit-requires (claims t) (put_number_at t) put-number.Post
 digit_requires t c κs = omega arith
 
-put_byte_requires : (t : ℕ) → put-number-lts.Need-put-byte-requires (claims t) (put_number_at t) put-number.Post
+put_byte_requires : (t : ℕ) → put-number-lts.Need-put_byte-requires (claims t) (put_number_at t) put-number.Post
 put_byte_requires t c κs = omega arith
 
-same_length : (t : ℕ) → put-number-lts.Need-same-length (claims t) (put_number_at t) put-number.Post
+same_length : (t : ℕ) → put-number-lts.Need-shape_of-out-then-n-lt10 (claims t) (put_number_at t) put-number.Post
 same_length t c = omega arith
 
-returns : (t : ℕ) → put-number-lts.Need-returns (claims t) (put_number_at t) put-number.Post
+returns : (t : ℕ) → put-number-lts.Need-returns-then-n-lt10 (claims t) (put_number_at t) put-number.Post
 returns t c =
     let p = c.before.before in
     let d = p.before in
     let i = d.before.before in
     let a = i.before.before.args in
-    let e = ap (λ (x : ℕ). x ∷ []) d.digit.ensures ∙ sym (decimal_low a.n i.if1.true) in
+    let e = ap (λ (x : ℕ). x ∷ []) d.digit.ensures ∙ sym (decimal_low a.n i.if-n-lt10.true) in
     (put_same p.put_byte.ensures.0 e, omega (arith, p.put_byte.ensures.1))
 
-put_number_requires : (t : ℕ) → put-number-lts.Need-put-number-requires (claims t) (put_number_at t) put-number.Post
+put_number_requires : (t : ℕ) → put-number-lts.Need-put_number-next-requires (claims t) (put_number_at t) put-number.Post
 put_number_requires t c κs = omega arith
 
 digit_requires_2 : (t : ℕ) → put-number-lts.Need-digit-requires-2 (claims t) (put_number_at t) put-number.Post
 digit_requires_2 t c κs = omega arith
 
-put_byte_requires_2 : (t : ℕ) → put-number-lts.Need-put-byte-requires-2 (claims t) (put_number_at t) put-number.Post
+put_byte_requires_2 : (t : ℕ) → put-number-lts.Need-put_byte-requires-2 (claims t) (put_number_at t) put-number.Post
 put_byte_requires_2 t c κs =
     let p = c.before.before.before.before in
     let s = p.before.before.before.before in
     let short : length (decimal (s.args.n / 10)) ≤ 9 = decimal_length 8 (s.args.n / 10) (omega arith) in
-    omega (arith, p.put-number.ensures.0.place, p.put-number.auto.0, s.requires.1)
+    omega (arith, p.put_number-next.ensures.0.place, p.put_number-next.auto.out, s.requires.1)
 
-same_length_2 : (t : ℕ) → put-number-lts.Need-same-length-2 (claims t) (put_number_at t) put-number.Post
+same_length_2 : (t : ℕ) → put-number-lts.Need-shape_of-out (claims t) (put_number_at t) put-number.Post
 same_length_2 t c = omega arith
 
-returns_2 : (t : ℕ) → put-number-lts.Need-returns-2 (claims t) (put_number_at t) put-number.Post
+returns_2 : (t : ℕ) → put-number-lts.Need-returns (claims t) (put_number_at t) put-number.Post
 returns_2 t c =
     let b = c.before.before in
     let d = b.before in
     let p = d.before.before.before.before in
     let i = p.before.before in
     let a = i.before.before.args in
-    let all = then p.put-number.ensures.0 b.put-byte2.ensures.0 in
-    let e = ap (λ (x : ℕ). decimal (a.n / 10) ++ (x ∷ [])) d.digit2.ensures ∙ sym (decimal_high a.n i.if1.false) in
+    let all = then p.put_number-next.ensures.0 b.put_byte-2.ensures.0 in
+    let e = ap (λ (x : ℕ). decimal (a.n / 10) ++ (x ∷ [])) d.digit-2.ensures ∙ sym (decimal_high a.n i.if-n-lt10.false) in
     let q = put_same all e in
     (q, omega (arith, q.place, decimal_32 a.n (omega arith)))
 
-pub +put-number-spec : {M : Type 1} → statement M
-+put-number-spec = close μ-put-number λ t. put-number-lts.spec (claims t)
+pub +put_number_spec : {M : Type 1} → statement M
++put_number_spec = close μ-put-number λ t. put-number-lts.spec (claims t)
     (put_number_at t)
     put-number.Post
     (digit_requires t)

@@ -13,47 +13,47 @@ use Rattle.text.proofs.decimals.put_signed.Statement.{statement}
 use Rattle.text.proofs.decimals.put_signed.Tie as tie
 
 -- the digits that are written are those of z's size
-size_digits : (c : tie.After-magnitude) → decimal c.magnitude.result ≡ decimal (nat_abs c.before.before.args.z)
+size_digits : (c : tie.After-magnitude-size) → decimal c.magnitude-size.result ≡ decimal (nat_abs c.before.before.args.z)
 size_digits c =
     let s = c.before.before in
-    ap decimal (c.magnitude.ensures ∙ ap nat_abs (to_z-of_z w32 s.args.z s.ranges.z))
+    ap decimal (c.magnitude-size.ensures ∙ ap nat_abs (to_z-of_z w32 s.args.z s.ranges.z))
 
-magnitude_requires : tie.Need-magnitude-requires
+magnitude_requires : tie.Need-magnitude-size-requires
 magnitude_requires c κs = omega arith
 
-put_byte_requires : tie.Need-put-byte-requires
+put_byte_requires : tie.Need-put_byte-next-requires
 put_byte_requires c κs = omega arith
 
-put_number_requires : tie.Need-put-number-requires
+put_number_requires : tie.Need-put_number-requires
 put_number_requires c κs = omega arith
 
-same_length : tie.Need-same-length
+same_length : tie.Need-shape_of-out-then-z-lt0
 same_length c = omega arith
 
-returns : tie.Need-returns
+returns : tie.Need-returns-then-z-lt0
 returns c =
     let number = c.before.before in
     let sign = number.before.before.before.before in
     let i = sign.before.before in
     let s = i.before.before.before in
-    let same = ap (λ (l : List ℕ). 45 ∷ l) (size_digits i.before) ∙ sym (minus_text w32 s.args.z s.ranges.z i.if1.true) in (
-      put_same (then sign.put_byte.ensures.0 number.put-number.ensures.0) same,
-      omega (arith, sign.put_byte.ensures.1, number.put-number.ensures.1),
+    let same = ap (λ (l : List ℕ). 45 ∷ l) (size_digits i.before) ∙ sym (minus_text w32 s.args.z s.ranges.z i.if-z-lt0.true) in (
+      put_same (then sign.put_byte-next.ensures.0 number.put_number.ensures.0) same,
+      omega (arith, sign.put_byte-next.ensures.1, number.put_number.ensures.1),
     )
 
-put_number_requires_2 : tie.Need-put-number-requires-2
+put_number_requires_2 : tie.Need-put_number-requires-2
 put_number_requires_2 c κs = omega arith
 
-same_length_2 : tie.Need-same-length-2
+same_length_2 : tie.Need-shape_of-out
 same_length_2 c = omega arith
 
-returns_2 : tie.Need-returns-2
+returns_2 : tie.Need-returns
 returns_2 c =
     let number = c.before.before in
     let i = number.before.before in
     let s = i.before.before.before in
-    let same = size_digits i.before ∙ sym (plain_text w32 s.args.z s.ranges.z i.if1.false) in
-    (put_same number.put-number2.ensures.0 same, omega (arith, number.put-number2.ensures.1))
+    let same = size_digits i.before ∙ sym (plain_text w32 s.args.z s.ranges.z i.if-z-lt0.false) in
+    (put_same number.put_number-2.ensures.0 same, omega (arith, number.put_number-2.ensures.1))
 
 pub put_signed_spec : {M : Type 1} → statement M
 put_signed_spec =

@@ -4,16 +4,16 @@ use Rattle.transform.proofs.ShortWords.{inverse_four_at}
 use Rattle.transform.proofs.base.invert_four.Statement.{statement}
 use Rattle.transform.proofs.base.invert_four.Tie as tie
 
-pack_requires : tie.Need-pack-requires
+pack_requires : tie.Need-pack-x-requires
 pack_requires c κs = search rules
 
-inverse_entry_requires : tie.Need-inverse-entry-requires
+inverse_entry_requires : tie.Need-inverse_entry-y-requires
 inverse_entry_requires c κs = search rules
 
 unpack_requires : tie.Need-unpack-requires
 unpack_requires c κs = search rules
 
-same_length : tie.Need-same-length
+same_length : tie.Need-shape_of-s
 same_length c = search rules
 
 returns : tie.Need-returns

@@ -24,49 +24,49 @@ module _ (c : lts.Start reads.Pre reads.Post) where
   fourth = bits_at c.requires.bits (c.args.at + 3 * c.args.d)
 
 -- ---- the needs
-add_second : tie.Need-overflow-add-second
+add_second : tie.Need-overflow_add-second
 add_second c = omega arith
 
-mul_third : tie.Need-overflow-mul-third
+mul_third : tie.Need-overflow_mul-third
 mul_third c = omega arith
 
-add_third : tie.Need-overflow-add-third
+add_third : tie.Need-overflow_add-third
 add_third c = omega arith
 
-mul_fourth : tie.Need-overflow-mul-fourth
+mul_fourth : tie.Need-overflow_mul-fourth
 mul_fourth c = omega arith
 
-add_fourth : tie.Need-overflow-add-fourth
+add_fourth : tie.Need-overflow_add-fourth
 add_fourth c = omega arith
 
-shared_slice_read_result : tie.Need-shared-slice-read-result
+shared_slice_read_result : tie.Need-bounds-s-at
 shared_slice_read_result c = omega arith
 
-shared_slice_read_result_2 : tie.Need-shared-slice-read-result-2
+shared_slice_read_result_2 : tie.Need-bounds-s-second
 shared_slice_read_result_2 c = omega arith
 
-shared_slice_read_result_3 : tie.Need-shared-slice-read-result-3
+shared_slice_read_result_3 : tie.Need-bounds-s-third
 shared_slice_read_result_3 c = omega arith
 
-shared_slice_read_result_4 : tie.Need-shared-slice-read-result-4
+shared_slice_read_result_4 : tie.Need-bounds-s-fourth
 shared_slice_read_result_4 c = omega arith
 
-mul_result : tie.Need-overflow-mul-result
+mul_result : tie.Need-overflow_mul-result
 mul_result c = omega (arith, first c.before.before.before.before, second c.before.before.before.before, third c.before.before.before.before, fourth c.before.before.before.before)
 
-add_result : tie.Need-overflow-add-result
+add_result : tie.Need-overflow_add-result
 add_result c = omega (arith, first c.before.before.before.before, second c.before.before.before.before, third c.before.before.before.before, fourth c.before.before.before.before)
 
-mul_result_2 : tie.Need-overflow-mul-result-2
+mul_result_2 : tie.Need-overflow_mul-result-2
 mul_result_2 c = omega (arith, first c.before.before.before.before, second c.before.before.before.before, third c.before.before.before.before, fourth c.before.before.before.before)
 
-add_result_2 : tie.Need-overflow-add-result-2
+add_result_2 : tie.Need-overflow_add-result-2
 add_result_2 c = omega (arith, first c.before.before.before.before, second c.before.before.before.before, third c.before.before.before.before, fourth c.before.before.before.before)
 
-mul_result_3 : tie.Need-overflow-mul-result-3
+mul_result_3 : tie.Need-overflow_mul-result-3
 mul_result_3 c = omega (arith, first c.before.before.before.before, second c.before.before.before.before, third c.before.before.before.before, fourth c.before.before.before.before)
 
-add_result_3 : tie.Need-overflow-add-result-3
+add_result_3 : tie.Need-overflow_add-result-3
 add_result_3 c = omega (arith, first c.before.before.before.before, second c.before.before.before.before, third c.before.before.before.before, fourth c.before.before.before.before)
 
 returns : tie.Need-returns

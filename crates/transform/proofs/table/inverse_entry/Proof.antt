@@ -16,8 +16,8 @@ entry_requires_3 c κs = search rules
 
 returns : tie.Need-returns
 returns c = (
-  c.entry3.ensures.0 ∙ ap table_entry (c.before.entry2.ensures.0 ∙ ap table_entry c.before.before.entry.ensures.0),
-  c.entry3.ensures.1,
+  c.entry-3.ensures.0 ∙ ap table_entry (c.before.entry-2.ensures.0 ∙ ap table_entry c.before.before.entry.ensures.0),
+  c.entry-3.ensures.1,
 )
 
 pub inverse_entry_spec : {M : Type 1} → statement M
