@@ -21,7 +21,7 @@ rising_sort [] = none₂
 rising_sort (x ∷ xs) = rising_insert x (rising_sort xs)
 
 -- in a list in order the first has the least cost
-first_least : {xs : List ℕ} (x a : ℕ) → All (x ≤◌) xs → min (cost_of x) a ≡ min (cost_of x) (lost_with a xs)
+first_least : (x a : ℕ) {xs : List ℕ} → All (x ≤◌) xs → min (cost_of x) a ≡ min (cost_of x) (lost_with a xs)
 first_least x a none = refl
 first_least x a (more {x = y} {xs = xs} h k) =
     let ih : min (cost_of x) a ≡ min (cost_of x) (lost_with a xs) = first_least x a k in

@@ -73,10 +73,10 @@ module _ (t : ℕ) where
 
   -- the slice with the sums, and its halves: the second one as it is, and the first one once it is transformed
   abbrev M : Added → List ℕ
-  M c = c.add_halves.new.0
+  M c = c.add_halves.new.s
 
   sums_long : (c : Added) → length (M c) ≡ h (long c) + h (long c)
-  sums_long c = c.add_halves.auto.0 ∙ whole_long (given (long c)) (more (long c))
+  sums_long c = c.add_halves.auto.s ∙ whole_long (given (long c)) (more (long c))
 
   front_long : (c : Added) → length (take (h (long c)) (M c)) ≡ h (long c)
   front_long c = first_long (given (long c)) (more (long c)) c.add_halves.ensures
@@ -88,10 +88,10 @@ module _ (t : ℕ) where
   d_long c = second_long (given (long (sums c))) (more (long (sums c))) (sums c).add_halves.ensures
 
   abbrev A : First → List ℕ
-  A c = c.polarise.new.0
+  A c = c.polarise.new.s
 
   a_long : (c : First) → length (A c) ≡ h (long (sums c))
-  a_long c = c.polarise.auto.0 ∙ front_long (sums c)
+  a_long c = c.polarise.auto.s ∙ front_long (sums c)
 
   both_long : (c : First) → length (A c ++ D c) ≡ h (long (sums c)) + h (long (sums c))
   both_long c = length-append (A c) (D c) ∙ omega (arith, a_long c, d_long c)
@@ -101,7 +101,7 @@ module _ (t : ℕ) where
   lent c = second_lent (A c) (D c) (h (long (sums c))) (a_long c)
 
   abbrev B : Second → List ℕ
-  B c = c.polarise-2.new.0
+  B c = c.polarise-2.new.s
 
 -- ---- the needs
 polarise_four_requires : (t : ℕ) → lts.Need-polarise_four-requires (claims t) (word_at t) word.Post
@@ -138,10 +138,10 @@ polarise_requires t c κs =
 sub_polarise_2 : (t : ℕ) → lts.Need-slice_bounds-polarise-count (claims t) (word_at t) word.Post
 sub_polarise_2 t c = omega (arith, both_long t c.before.before)
 
-part_polarise_start : (t : ℕ) → lts.Need-slice-bounds-polarise-start (claims t) (word_at t) word.Post
+part_polarise_start : (t : ℕ) → lts.Need-slice_bounds-polarise-start (claims t) (word_at t) word.Post
 part_polarise_start t c = omega (arith, both_long t c.before.before)
 
-part_polarise_end : (t : ℕ) → lts.Need-slice-bounds-polarise-end (claims t) (word_at t) word.Post
+part_polarise_end : (t : ℕ) → lts.Need-slice_bounds-polarise-end-3 (claims t) (word_at t) word.Post
 part_polarise_end t c = omega arith
 
 sub_polarise_3 : (t : ℕ) → lts.Need-overflow_sub-m-2 (claims t) (word_at t) word.Post
@@ -160,7 +160,7 @@ same_length_2 t c =
     let l : Long t = long t (sums t f) in
     ap length (second_put (A t f) (D t f) (h t l) (a_long t f) (B t e))
     ∙ length-append (A t f) (B t e)
-    ∙ omega (arith, a_long t f, e.polarise-2.auto.0 ∙ ap length (lent t f) ∙ d_long t f, whole_long (given t l) (more t l))
+    ∙ omega (arith, a_long t f, e.polarise-2.auto.s ∙ ap length (lent t f) ∙ d_long t f, whole_long (given t l) (more t l))
 
 returns_2 : (t : ℕ) → lts.Need-returns (claims t) (word_at t) word.Post
 returns_2 t c =

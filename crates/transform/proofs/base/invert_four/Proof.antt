@@ -17,7 +17,7 @@ same_length : tie.Need-shape_of-s
 same_length c = search rules
 
 returns : tie.Need-returns
-returns c = cc (inverse_four_at c.before.before.before.before.before.before.before.before.requires)
+returns c = cc (inverse_four_at c.before.before.before.before.before.before.before.requires)
 
 pub invert_four_spec : {M : Type 1} → statement M
 invert_four_spec = tie.close (tie.spec pack_requires inverse_entry_requires unpack_requires same_length returns)

@@ -17,7 +17,7 @@ same_length : tie.Need-shape_of-s
 same_length c = search rules
 
 returns : tie.Need-returns
-returns c = cc (transform_four_at c.before.before.before.before.before.before.before.before.requires)
+returns c = cc (transform_four_at c.before.before.before.before.before.before.before.requires)
 
 pub transform_four_spec : {M : Type 1} → statement M
 transform_four_spec = tie.close (tie.spec pack_requires entry_requires unpack_requires same_length returns)
