@@ -15,10 +15,10 @@ use Rattle.columns.specs.Turns.{front_is}
 abbrev start : tie.After-put_number-k → tie.Start
 start p = p.before.before.before
 
-room : (p : tie.After-put_number-k) → length p.put_number-k.new.0 ≡ 10
-room p = p.put_number-k.auto.0
+room : (p : tie.After-put_number-k) → length p.put_number-k.new.out ≡ 10
+room p = p.put_number-k.auto.out
 
-digits : (p : tie.After-put_number-k) → (take p.put_number-k.result p.put_number-k.new.0 ≡ decimal (start p).args.x) × (p.put_number-k.result ≡ length (decimal (start p).args.x))
+digits : (p : tie.After-put_number-k) → (take p.put_number-k.result p.put_number-k.new.out ≡ decimal (start p).args.x) × (p.put_number-k.result ≡ length (decimal (start p).args.x))
 digits p = front_is p.put_number-k.ensures.0 (omega (arith, p.put_number-k.ensures.1))
 
 slice_aggregate_put_number : tie.Need-slice_bounds-put_number-end
@@ -33,7 +33,7 @@ array_share_prefix_digits c = search rules
 slice_aggregate_put_right : tie.Need-slice_bounds-put_right-end
 slice_aggregate_put_right c =
     let p = c.before.before.before in
-    sym (length-take-le p.put_number-k.result p.put_number-k.new.0 (omega (arith, room p, p.put_number-k.ensures.1)))
+    sym (length-take-le p.put_number-k.result p.put_number-k.new.out (omega (arith, room p, p.put_number-k.ensures.1)))
 
 put_right_requires : tie.Need-put_right-requires
 put_right_requires c κs =

@@ -17,10 +17,10 @@ use Rattle.columns.specs.Turns.{front_is}
 abbrev start : tie.After-put_signed-k → tie.Start
 start p = p.before.before.before
 
-room : (p : tie.After-put_signed-k) → length p.put_signed-k.new.0 ≡ 11
-room p = p.put_signed-k.auto.0
+room : (p : tie.After-put_signed-k) → length p.put_signed-k.new.out ≡ 11
+room p = p.put_signed-k.auto.out
 
-digits : (p : tie.After-put_signed-k) → take p.put_signed-k.result p.put_signed-k.new.0 ≡ signed_decimal (start p).args.z
+digits : (p : tie.After-put_signed-k) → take p.put_signed-k.result p.put_signed-k.new.out ≡ signed_decimal (start p).args.z
 digits p =
     (front_is p.put_signed-k.ensures.0 (omega (arith, p.put_signed-k.ensures.1))).0
     ∙ ap signed_decimal (to_z-of_z w32 (start p).args.z (start p).ranges.z)
@@ -37,7 +37,7 @@ array_share_prefix_digits c = search rules
 slice_aggregate_put_right : tie.Need-slice_bounds-put_right-end
 slice_aggregate_put_right c =
     let p = c.before.before.before in
-    sym (length-take-le p.put_signed-k.result p.put_signed-k.new.0 (omega (arith, room p, p.put_signed-k.ensures.1)))
+    sym (length-take-le p.put_signed-k.result p.put_signed-k.new.out (omega (arith, room p, p.put_signed-k.ensures.1)))
 
 put_right_requires : tie.Need-put_right-requires
 put_right_requires c κs =

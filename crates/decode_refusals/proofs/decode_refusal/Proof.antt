@@ -27,36 +27,36 @@ l_fits : (c : tie.Start) → First (block_f c false) 0 → c.args.l ≤ 32
 unfolding block_f
 l_fits c (later _ (later _ (later _ (later _ (later _ (later _ (later e f))))))) = (inside_of 1 32 c.args.l e).1
 
-abbrev start : tie.After-block-refusal → tie.Start
+abbrev start : tie.After-block_refusal-block → tie.Start
 start c = c.before.before.before
 
-passed : (c : tie.Else1) → First (block_f (start c.before) false) 0
+passed : (c : tie.Else-block-ne0) → First (block_f (start c.before) false) 0
 unfolding block_f
-passed c = of_first (block_f (start c.before) false) 0 (sym c.if1.false ∙ c.before.block_refusal.ensures false)
+passed c = of_first (block_f (start c.before) false) 0 (sym c.if-block-ne0.false ∙ c.before.block_refusal-block.ensures false)
 
-block_refusal_requires : tie.Need-block-refusal-requires
+block_refusal_requires : tie.Need-block_refusal-block-requires
 block_refusal_requires c κs = search rules
 
-returns : tie.Need-returns
+returns : tie.Need-returns-then-block-ne0
 unfolding block_f lent_f
 returns c arikan =
     let s = start c.before in
-    first_before (block_f s arikan) (lent_f s (2 ^ s.args.m)) c.before.block_refusal.result (c.before.block_refusal.ensures arikan) c.if1.true
+    first_before (block_f s arikan) (lent_f s (2 ^ s.args.m)) c.before.block_refusal-block.result (c.before.block_refusal-block.ensures arikan) c.if-block-ne0.true
 
-size_requires : tie.Need-size-requires
+size_requires : tie.Need-size-n-requires
 size_requires c κs = m_fits (start c.before) (passed c)
 
-table_refusal_requires : tie.Need-table-refusal-requires
-table_refusal_requires c κs = (c.size.ensures.1, l_fits (start c.before.before) (passed c.before))
+table_refusal_requires : tie.Need-table_refusal-requires
+table_refusal_requires c κs = (c.size-n.ensures.1, l_fits (start c.before.before) (passed c.before))
 
-returns_2 : tie.Need-returns-2
+returns_2 : tie.Need-returns
 unfolding block_f lent_f
 returns_2 c arikan =
     let z = c.before.before in
     let s = start z.before in
-    first_after (block_f s arikan) (lent_f s (2 ^ s.args.m)) z.before.block_refusal.result (z.before.block_refusal.ensures arikan)
-    (next (next (next (next (next (next (next (next (next (next end)))))))))) z.if1.false c.table-refusal.result
-    (c.table-refusal.ensures ∙ ap (λ (n : ℕ). first (lent_f s n)) c.before.size.ensures.0)
+    first_after (block_f s arikan) (lent_f s (2 ^ s.args.m)) z.before.block_refusal-block.result (z.before.block_refusal-block.ensures arikan)
+    (next (next (next (next (next (next (next (next (next (next end)))))))))) z.if-block-ne0.false c.table_refusal.result
+    (c.table_refusal.ensures ∙ ap (λ (n : ℕ). first (lent_f s n)) c.before.size-n.ensures.0)
 
 pub decode_refusal_spec : {M : Type 1} → statement M
 decode_refusal_spec =

@@ -26,63 +26,63 @@ none_short false true z e = absurd (true≢false e)
 none_short false false z e = later refl (later refl (later e none))
 
 -- the three tests, over n and l
-module _ (c : tie.After-outputs-short) where
+module _ (c : tie.After-outputs_short-few_places) where
   abbrev s : tie.Start
   s = c.before.before.before
 
-  numbers_test : ltb s.args.numbers (32 * c.before.before.times.result) ≡ ltb s.args.numbers (number_room s.args.n s.args.l)
-  numbers_test = ap (λ (k : ℕ). ltb s.args.numbers (32 * k)) c.before.before.times.ensures.0
+  numbers_test : ltb s.args.numbers (32 * c.before.before.times-area.result) ≡ ltb s.args.numbers (number_room s.args.n s.args.l)
+  numbers_test = ap (λ (k : ℕ). ltb s.args.numbers (32 * k)) c.before.before.times-area.ensures.0
 
-  bytes_test : ltb s.args.bytes c.before.times2.result ≡ ltb s.args.bytes (byte_room s.args.n s.args.l)
-  bytes_test = ap (ltb s.args.bytes) c.before.times2.ensures.0
+  bytes_test : ltb s.args.bytes c.before.times-small.result ≡ ltb s.args.bytes (byte_room s.args.n s.args.l)
+  bytes_test = ap (ltb s.args.bytes) c.before.times-small.ensures.0
 
-  places_test : c.outputs-short.result
+  places_test : c.outputs_short-few_places.result
       ≡ (ltb s.args.inputs (s.args.n * s.args.l) || (ltb s.args.words (s.args.n * s.args.l) || ltb s.args.scores s.args.l))
   places_test =
-      c.outputs-short.ensures
-      ∙ ap (λ (k : ℕ). ltb s.args.inputs k || (ltb s.args.words k || ltb s.args.scores s.args.l)) c.before.before.times.ensures.0
+      c.outputs_short-few_places.ensures
+      ∙ ap (λ (k : ℕ). ltb s.args.inputs k || (ltb s.args.words k || ltb s.args.scores s.args.l)) c.before.before.times-area.ensures.0
 
-times_requires : tie.Need-times-requires
+times_requires : tie.Need-times-area-requires
 times_requires c κs = search rules
 
-mul_times : tie.Need-overflow-mul-times
+mul_times : tie.Need-overflow_mul-n
 mul_times c = search rules
 
-add_times : tie.Need-overflow-add-times
+add_times : tie.Need-overflow_add-n
 add_times c = search rules
 
-times_requires_2 : tie.Need-times-requires-2
+times_requires_2 : tie.Need-times-small-requires
 times_requires_2 c κs = search rules
 
-mul_few_numbers : tie.Need-overflow-mul-few-numbers
+mul_few_numbers : tie.Need-overflow_mul-few_numbers
 mul_few_numbers c = search rules
 
-outputs_short_requires : tie.Need-outputs-short-requires
+outputs_short_requires : tie.Need-outputs_short-few_places-requires
 outputs_short_requires c κs = search rules
 
-returns : tie.Need-returns
+returns : tie.Need-returns-then-few_numbers
 returns c =
     let o = c.before in
-    is_first (table (s o)) 8 (here (sym (numbers_test o) ∙ c.if1.true))
+    is_first (table (s o)) 8 (here (sym (numbers_test o) ∙ c.if-few_numbers.true))
 
-returns_2 : tie.Need-returns-2
+returns_2 : tie.Need-returns-then-few_bytes
 returns_2 c =
     let o = c.before.before in
-    is_first (table (s o)) 9 (later (sym (numbers_test o) ∙ c.before.if1.false) (here (sym (bytes_test o) ∙ c.if2.true)))
+    is_first (table (s o)) 9 (later (sym (numbers_test o) ∙ c.before.if-few_numbers.false) (here (sym (bytes_test o) ∙ c.if-few_bytes.true)))
 
-returns_3 : tie.Need-returns-3
+returns_3 : tie.Need-returns-then-few_places
 returns_3 c =
     let o = c.before.before.before in
     is_first (table (s o)) 10
-    (later (sym (numbers_test o) ∙ c.before.before.if1.false) (later (sym (bytes_test o) ∙ c.before.if2.false)
-    (some_short _ _ _ (sym (places_test o) ∙ c.if3.true))))
+    (later (sym (numbers_test o) ∙ c.before.before.if-few_numbers.false) (later (sym (bytes_test o) ∙ c.before.if-few_bytes.false)
+    (some_short _ _ _ (sym (places_test o) ∙ c.if-few_places.true))))
 
-returns_4 : tie.Need-returns-4
+returns_4 : tie.Need-returns
 returns_4 c =
     let o = c.before.before.before in
     is_first (table (s o)) 0
-    (later (sym (numbers_test o) ∙ c.before.before.if1.false) (later (sym (bytes_test o) ∙ c.before.if2.false)
-    (none_short _ _ _ (sym (places_test o) ∙ c.if3.false))))
+    (later (sym (numbers_test o) ∙ c.before.before.if-few_numbers.false) (later (sym (bytes_test o) ∙ c.before.if-few_bytes.false)
+    (none_short _ _ _ (sym (places_test o) ∙ c.if-few_places.false))))
 
 pub table_refusal_spec : {M : Type 1} → statement M
 table_refusal_spec =

@@ -19,28 +19,28 @@ given c arikan = code c.args.m arikan c.args.map.now c.args.pairs.now
 abbrev rest : tie.Start → Bool → List Fault
 rest c arikan = bit_faults (payload_size (given c arikan)) c.args.payload.now
 
-code_refusal_requires : tie.Need-code-refusal-requires
+code_refusal_requires : tie.Need-code_refusal-code-requires
 code_refusal_requires c κs = search rules
 
-returns : tie.Need-returns
+returns : tie.Need-returns-then-code-ne0
 returns c arikan =
     let s = c.before.before.before.before.before in
-    first_before (code_faults (given s arikan)) (rest s arikan) c.before.code-refusal.result (c.before.code-refusal.ensures arikan) c.if1.true
+    first_before (code_faults (given s arikan)) (rest s arikan) c.before.code_refusal-code.result (c.before.code_refusal-code.ensures arikan) c.if-code-ne0.true
 
-payload_size_requires : tie.Need-payload-size-requires
+payload_size_requires : tie.Need-payload_size-k-requires
 payload_size_requires c κs =
-    let a = accepted (given c.before.before.before.before.before false) (sym c.if1.false ∙ c.before.code-refusal.ensures false) in
+    let a = accepted (given c.before.before.before.before.before false) (sym c.if-code-ne0.false ∙ c.before.code_refusal-code.ensures false) in
     (a.high, a.bytes, a.ends)
 
-bit_refusal_requires : tie.Need-bit-refusal-requires
+bit_refusal_requires : tie.Need-bit_refusal-requires
 bit_refusal_requires c κs = search rules
 
-returns_2 : tie.Need-returns-2
+returns_2 : tie.Need-returns
 returns_2 c arikan =
     let e = c.before.before in
     let s = e.before.before.before.before.before in
-    first_after (code_faults (given s arikan)) (rest s arikan) e.before.code-refusal.result (e.before.code-refusal.ensures arikan) (code_numbers (given s arikan)) e.if1.false
-    c.bit-refusal.result (c.bit-refusal.ensures ∙ ap (λ (k : ℕ). first (bit_faults k s.args.payload.now)) (c.before.payload-size.ensures arikan s.args.pairs.now))
+    first_after (code_faults (given s arikan)) (rest s arikan) e.before.code_refusal-code.result (e.before.code_refusal-code.ensures arikan) (code_numbers (given s arikan)) e.if-code-ne0.false
+    c.bit_refusal.result (c.bit_refusal.ensures ∙ ap (λ (k : ℕ). first (bit_faults k s.args.payload.now)) (c.before.payload_size-k.ensures arikan s.args.pairs.now))
 
 pub payload_refusal_spec : {M : Type 1} → statement M
 payload_refusal_spec =

@@ -19,10 +19,10 @@ given c = code c.args.m c.args.arikan c.args.map.now c.args.pairs.now
 flags : (c : tie.Start) → flags_of (length c.args.word.now) c.args.map.now ≡ frozen (given c)
 flags c = flags_are c.args.m (length c.args.word.now) c.args.arikan c.args.map.now c.args.pairs.now c.requires.0
 
-abbrev start : tie.After-fill-input → tie.Start
+abbrev start : tie.After-fill_input → tie.Start
 start c = c.before.before.before.before.before.before
 
-fill_input_requires : tie.Need-fill-input-requires
+fill_input_requires : tie.Need-fill_input-requires
 fill_input_requires c κs =
     let s = c.before.before.before.before.before in
     let b : 2 ^ s.args.m ≤ 8 * length s.args.map.now = enough_bits (2 ^ s.args.m) s.args.map.now s.requires.1.accepts.bytes in
@@ -33,21 +33,21 @@ fill_input_requires c κs =
     )
 
 -- the word once it is filled
-input_is : (c : tie.After-fill-input) → c.fill-input.new.1.1.1.0 ≡ input_for (given (start c)) (start c).args.payload.now
-input_is c = c.fill-input.ensures (start c).args.m (start c).args.arikan (start c).requires.0
+input_is : (c : tie.After-fill_input) → c.fill_input.new.1.1.1.0 ≡ input_for (given (start c)) (start c).args.payload.now
+input_is c = c.fill_input.ensures (start c).args.m (start c).args.arikan (start c).requires.0
 
-transform_word_requires : tie.Need-transform-word-requires
+transform_word_requires : tie.Need-transform_word-requires
 transform_word_requires c κs =
     let a = c.before.before.before in
     let s = start a in
     record {
-      least = s.pre.1.accepts.low;
-      most = s.pre.1.accepts.high;
-      long = a.fill-input.auto.1.1.1.0 ∙ s.pre.0;
-      bits = rw (input_is a) (bits_input (given s) s.pre.1.bits);
+      least = s.requires.1.accepts.low;
+      most = s.requires.1.accepts.high;
+      long = a.fill_input.auto.1.1.1.0 ∙ s.requires.0;
+      bits = rw (input_is a) (bits_input (given s) s.requires.1.bits);
     }
 
-same_length : tie.Need-same-length
+same_length : tie.Need-shape_of-word
 same_length c = search rules
 
 returns : tie.Need-returns
@@ -55,7 +55,7 @@ unfolding encoded
 returns c =
     let t = c.before.before in
     let a = t.before.before.before.before in
-    t.transform-word.ensures ∙ ap (code_transform (given (start a))) (input_is a)
+    t.transform_word.ensures ∙ ap (code_transform (given (start a))) (input_is a)
 
 pub write_word_spec : {M : Type 1} → statement M
 write_word_spec =

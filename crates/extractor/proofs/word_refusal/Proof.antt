@@ -19,27 +19,27 @@ given c arikan = code c.args.m arikan c.args.map.now c.args.pairs.now
 abbrev rest : tie.Start → List Fault
 rest c = bit_faults (2 ^ c.args.m) c.args.word.now
 
-code_refusal_requires : tie.Need-code-refusal-requires
+code_refusal_requires : tie.Need-code_refusal-code-requires
 code_refusal_requires c κs = search rules
 
-returns : tie.Need-returns
+returns : tie.Need-returns-then-code-ne0
 returns c arikan =
     let s = c.before.before.before.before.before in
-    first_before (code_faults (given s arikan)) (rest s) c.before.code-refusal.result (c.before.code-refusal.ensures arikan) c.if1.true
+    first_before (code_faults (given s arikan)) (rest s) c.before.code_refusal-code.result (c.before.code_refusal-code.ensures arikan) c.if-code-ne0.true
 
-size_requires : tie.Need-size-requires
+size_requires : tie.Need-size-n-requires
 size_requires c κs =
-    (accepted (given c.before.before.before.before.before false) (sym c.if1.false ∙ c.before.code-refusal.ensures false)).high
+    (accepted (given c.before.before.before.before.before false) (sym c.if-code-ne0.false ∙ c.before.code_refusal-code.ensures false)).high
 
-bit_refusal_requires : tie.Need-bit-refusal-requires
+bit_refusal_requires : tie.Need-bit_refusal-requires
 bit_refusal_requires c κs = search rules
 
-returns_2 : tie.Need-returns-2
+returns_2 : tie.Need-returns
 returns_2 c arikan =
     let e = c.before.before in
     let s = e.before.before.before.before.before in
-    first_after (code_faults (given s arikan)) (rest s) e.before.code-refusal.result (e.before.code-refusal.ensures arikan) (code_numbers (given s arikan)) e.if1.false
-    c.bit-refusal.result (c.bit-refusal.ensures ∙ ap (λ (n : ℕ). first (bit_faults n s.args.word.now)) c.before.size.ensures.0)
+    first_after (code_faults (given s arikan)) (rest s) e.before.code_refusal-code.result (e.before.code_refusal-code.ensures arikan) (code_numbers (given s arikan)) e.if-code-ne0.false
+    c.bit_refusal.result (c.bit_refusal.ensures ∙ ap (λ (n : ℕ). first (bit_faults n s.args.word.now)) c.before.size-n.ensures.0)
 
 pub word_refusal_spec : {M : Type 1} → statement M
 word_refusal_spec =

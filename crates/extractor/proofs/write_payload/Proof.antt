@@ -38,91 +38,91 @@ enough c =
     let e : length c.args.input.now ≡ 2 ^ c.args.m = c.requires.1 in
     omega arith
 
-breaks_rule_requires : tie.Need-breaks-rule-requires
+breaks_rule_requires : tie.Need-breaks_rule-outside-requires
 breaks_rule_requires c κs =
     let s = c.before.before.before.before in
     (enough s, subst (λ (fs : List ℕ). Ruled fs s.args.pairs.now) (sym (flags s false)) (s.requires.0 false).ruled)
 
-abbrev called : tie.After-breaks-rule → tie.Start
+abbrev called : tie.After-breaks_rule-outside → tie.Start
 called c = c.before.before.before.before.before
 
-tested : (c : tie.After-breaks-rule) (arikan : Bool) → broken (given (called c) arikan) (called c).args.input.now ≡ c.breaks-rule.result
+tested : (c : tie.After-breaks_rule-outside) (arikan : Bool) → broken (given (called c) arikan) (called c).args.input.now ≡ c.breaks_rule-outside.result
 unfolding broken
 tested c arikan =
     let s = called c in
-    sym (c.breaks-rule.ensures s.args.m arikan ∙ ap (broken_from (given s arikan) s.args.input.now 0) (flags s arikan))
+    sym (c.breaks_rule-outside.ensures s.args.m arikan ∙ ap (broken_from (given s arikan) s.args.input.now 0) (flags s arikan))
 
-payload_size_requires : tie.Need-payload-size-requires
+payload_size_requires : tie.Need-payload_size-k-requires
 payload_size_requires c κs = let a = (called c).requires.0 false in (a.high, a.bytes, a.ends)
 
-abbrev start : tie.After-payload-size → tie.Start
+abbrev start : tie.After-payload_size-k → tie.Start
 start c = called c.before
 
 -- the two tests, over the code
-outside_test : (c : tie.After-payload-size) (arikan : Bool) → broken (given (start c) arikan) (start c).args.input.now ≡ c.before.breaks-rule.result
+outside_test : (c : tie.After-payload_size-k) (arikan : Bool) → broken (given (start c) arikan) (start c).args.input.now ≡ c.before.breaks_rule-outside.result
 outside_test c = tested c.before
 
-sized : (c : tie.After-payload-size) (arikan : Bool) → c.payload-size.result ≡ payload_size (given (start c) arikan)
-sized c arikan = c.payload-size.ensures arikan (start c).args.pairs.now
+sized : (c : tie.After-payload_size-k) (arikan : Bool) → c.payload_size-k.result ≡ payload_size (given (start c) arikan)
+sized c arikan = c.payload_size-k.ensures arikan (start c).args.pairs.now
 
-short_test : (c : tie.After-payload-size) (arikan : Bool)
-    → ltb (length (start c).args.payload.now) (payload_size (given (start c) arikan)) ≡ ltb (length (start c).args.payload.now) c.payload-size.result
+short_test : (c : tie.After-payload_size-k) (arikan : Bool)
+    → ltb (length (start c).args.payload.now) (payload_size (given (start c) arikan)) ≡ ltb (length (start c).args.payload.now) c.payload_size-k.result
 short_test c arikan = ap (ltb (length (start c).args.payload.now)) (sym (sized c arikan))
 
-returns : tie.Need-returns
+returns : tie.Need-returns-then-outside
 returns c arikan =
     let k = c.before in
     let s = start k in
     payload_refused (given s arikan) s.args.input.now s.args.payload.now 12
-    (is_first (table s arikan) 12 (here (outside_test k arikan ∙ c.if1.true))) (λ z. omega arith)
+    (is_first (table s arikan) 12 (here (outside_test k arikan ∙ c.if-outside.true))) (λ z. omega arith)
 
-returns_2 : tie.Need-returns-2
+returns_2 : tie.Need-returns-then-short
 returns_2 c arikan =
     let k = c.before.before in
     let s = start k in
     payload_refused (given s arikan) s.args.input.now s.args.payload.now 10
-    (is_first (table s arikan) 10 (later (outside_test k arikan ∙ c.before.if1.false) (here (short_test k arikan ∙ c.if2.true)))) (λ z. omega arith)
+    (is_first (table s arikan) 10 (later (outside_test k arikan ∙ c.before.if-outside.false) (here (short_test k arikan ∙ c.if-short.true)))) (λ z. omega arith)
 
 -- the output has room
-fits : (c : tie.Else2) → c.before.before.payload-size.result ≤ length (start c.before.before).args.payload.now
-fits c = ltb-false (length (start c.before.before).args.payload.now) c.before.before.payload-size.result c.if2.false
+fits : (c : tie.Else-short) → c.before.before.payload_size-k.result ≤ length (start c.before.before).args.payload.now
+fits c = ltb-false (length (start c.before.before).args.payload.now) c.before.before.payload_size-k.result c.if-short.false
 
-slice_relend_prefix_gather_payload : tie.Need-slice-relend-prefix-gather-payload
+slice_relend_prefix_gather_payload : tie.Need-slice_bounds-gather_payload-end
 slice_relend_prefix_gather_payload c = omega (arith, fits c)
 
 -- the part that is lent
-part : (c : tie.Else2) → length (take c.before.before.payload-size.result (start c.before.before).args.payload.now) ≡ c.before.before.payload-size.result
-part c = length-take-le c.before.before.payload-size.result (start c.before.before).args.payload.now (fits c)
+part : (c : tie.Else-short) → length (take c.before.before.payload_size-k.result (start c.before.before).args.payload.now) ≡ c.before.before.payload_size-k.result
+part c = length-take-le c.before.before.payload_size-k.result (start c.before.before).args.payload.now (fits c)
 
-slice_aggregate_gather_payload : tie.Need-slice-aggregate-gather-payload
+slice_aggregate_gather_payload : tie.Need-slice_bounds-gather_payload-end-2
 slice_aggregate_gather_payload c = sym (part c.before)
 
-gather_payload_requires : tie.Need-gather-payload-requires
+gather_payload_requires : tie.Need-gather_payload-requires
 gather_payload_requires c κs =
     let l = c.before in
     let s = start l.before.before in
     (enough s, ap clear (flags s false) ∙ sym (part l ∙ sized l.before.before false))
 
-fill_bytes_requires : tie.Need-fill-bytes-requires
+fill_bytes_requires : tie.Need-fill_bytes-requires
 fill_bytes_requires c κs = search rules
 
-same_length : tie.Need-same-length
+same_length : tie.Need-shape_of-payload
 same_length c = search rules
 
-returns_3 : tie.Need-returns-3
+returns_3 : tie.Need-returns
 returns_3 c arikan =
     let w = c.before.before.before.before.before.before in
     let l = w.before.before in
     let p = l.before.before in
     let s = start p in
-    let k = p.payload-size.result in
+    let k = p.payload_size-k.result in
     let out = s.args.payload.now in
     ap (written 0)
-    (c.before.before.fill-bytes.ensures
-    ∙ filled_behind 0 w.gather-payload.new.1.1.0 out k (w.gather-payload.auto.1.1.0 ∙ part l) (fits l)
-    ∙ ap (padded 0 (length out)) (w.gather-payload.ensures ∙ ap (λ (fs : List ℕ). gathered fs s.args.input.now) (flags s arikan)))
+    (c.before.before.fill_bytes.ensures
+    ∙ filled_behind 0 w.gather_payload.new.1.1.0 out k (w.gather_payload.auto.1.1.0 ∙ part l) (fits l)
+    ∙ ap (padded 0 (length out)) (w.gather_payload.ensures ∙ ap (λ (fs : List ℕ). gathered fs s.args.input.now) (flags s arikan)))
     ∙ payload_served (given s arikan) s.args.input.now out
-    (is_first (table s arikan) 0 (later (outside_test p arikan ∙ l.before.if1.false) (later (short_test p arikan ∙ l.if2.false) none)))
+    (is_first (table s arikan) 0 (later (outside_test p arikan ∙ l.before.if-outside.false) (later (short_test p arikan ∙ l.if-short.false) none)))
 
 pub write_payload_spec : {M : Type 1} → statement M
 write_payload_spec =

@@ -18,7 +18,7 @@ use borrow.Author.Rules.{rules}
 use Rattle.result_writer.proofs.write_result.Statement.{statement}
 use Rattle.result_writer.proofs.write_result.Tie as tie
 
-abbrev start : tie.After-result-refusal → tie.Start
+abbrev start : tie.After-result_refusal-refusal → tie.Start
 start c = c.before.before.before
 
 abbrev given_by : tie.Start → ℤ → Result
@@ -31,65 +31,65 @@ given s = given_by s s.args.ceiling
 same : (s : tie.Start) → to_z w32 (of_z w32 s.args.ceiling) ≡ s.args.ceiling
 same s = to_z-of_z w32 s.args.ceiling s.ranges.ceiling
 
-number : (c : tie.After-result-refusal) → c.result-refusal.result ≡ first (result_faults (given (start c)))
-number c = let s = start c in c.result-refusal.ensures s.args.frame ∙ ap (λ (z : ℤ). first (result_faults (given_by s z))) (same s)
+number : (c : tie.After-result_refusal-refusal) → c.result_refusal-refusal.result ≡ first (result_faults (given (start c)))
+number c = let s = start c in c.result_refusal-refusal.ensures s.args.frame ∙ ap (λ (z : ℤ). first (result_faults (given_by s z))) (same s)
 
 -- past the tests of what is given
-passed : (c : tie.Else1) → 0 ≡ first (result_faults (given (start c.before)))
-passed c = sym c.if1.false ∙ number c.before
+passed : (c : tie.Else-refusal-ne0) → 0 ≡ first (result_faults (given (start c.before)))
+passed c = sym c.if-refusal-ne0.false ∙ number c.before
 
-writable : (c : tie.Else1) → WritableResult (given (start c.before))
+writable : (c : tie.Else-refusal-ne0) → WritableResult (given (start c.before))
 writable c = result_none (given (start c.before)) (passed c)
 
 -- the length that was computed
-measured : (c : tie.After-result-length) → let s = start c.before.before in c.result-length.result ≡ length (written_result (given s))
+measured : (c : tie.After-result_length-k) → let s = start c.before.before in c.result_length-k.result ≡ length (written_result (given s))
 measured c =
     let s = start c.before.before in
-    c.result-length.ensures.0 s.args.inputs.now ∙ ap (λ (z : ℤ). length (written_result (given_by s z))) (same s)
+    c.result_length-k.ensures.0 s.args.inputs.now ∙ ap (λ (z : ℤ). length (written_result (given_by s z))) (same s)
 
-fits : (c : tie.Else2) → let s = start c.before.before.before in length (written_result (given s)) ≤ length s.args.out.now
-fits c = omega (arith, measured c.before, c.if2.false)
+fits : (c : tie.Else-out-k) → let s = start c.before.before.before in length (written_result (given s)) ≤ length s.args.out.now
+fits c = omega (arith, measured c.before, c.if-out-k.false)
 
-result_refusal_requires : tie.Need-result-refusal-requires
+result_refusal_requires : tie.Need-result_refusal-refusal-requires
 result_refusal_requires c κs = search rules
 
-returns : tie.Need-returns
+returns : tie.Need-returns-then-refusal-ne0
 returns c =
     let r = c.before in
     let s = start r in
     let out = s.args.out.now in
-    let k = r.result-refusal.result in
-    write_result_refused (given s) out k (result_refused (given s) (length out) k (number r) c.if1.true) c.if1.true
+    let k = r.result_refusal-refusal.result in
+    write_result_refused (given s) out k (result_refused (given s) (length out) k (number r) c.if-refusal-ne0.true) c.if-refusal-ne0.true
 
-result_length_requires : tie.Need-result-length-requires
+result_length_requires : tie.Need-result_length-k-requires
 result_length_requires c κs = let w = writable c in (w.high, w.some_rows, w.few_rows, w.scores_long)
 
-returns_2 : tie.Need-returns-2
+returns_2 : tie.Need-returns-then-out-k
 returns_2 c =
     let l = c.before in
     let e = l.before in
     let s = start e.before in
     let out = s.args.out.now in
-    let short : length out < length (written_result (given s)) = omega (arith, measured l, c.if2.true) in
+    let short : length out < length (written_result (given s)) = omega (arith, measured l, c.if-out-k.true) in
     write_result_refused (given s) out 10 (room_refused (given s) (length out) (passed e) short) (λ q. omega arith)
 
-write_record_requires : tie.Need-write-record-requires
+write_record_requires : tie.Need-write_record-requires
 write_record_requires c κs =
     let l = c.before in
     let e = l.before.before in
     let s = start e.before in
     subst (λ (z : ℤ). WritableResult (given_by s z) × (length (written_result (given_by s z)) ≤ length s.args.out.now)) (sym (same s)) (writable e, fits l)
 
-fill_bytes_requires : tie.Need-fill-bytes-requires
+fill_bytes_requires : tie.Need-fill_bytes-requires
 fill_bytes_requires c κs = search rules
 
-cast_t17 : tie.Need-overflow-cast-t17
+cast_t17 : tie.Need-overflow_cast-result
 cast_t17 c = search rules
 
-same_length : tie.Need-same-length
+same_length : tie.Need-shape_of-out
 same_length c = search rules
 
-returns_3 : tie.Need-returns-3
+returns_3 : tie.Need-returns
 unfolding write_result_served
 returns_3 c =
     let fill = c.before.before in
@@ -101,9 +101,9 @@ returns_3 c =
     let f = given s in
     let out = s.args.out.now in
     let n = measured m in
-    let written = put_same put.write-record.ensures (ap (λ (z : ℤ). written_result (given_by s z)) (same s)) in
+    let written = put_same put.write_record.ensures (ap (λ (z : ℤ). written_result (given_by s z)) (same s)) in
     let begun = whole written (omega (arith, written.place, fits l)) in
-    let bytes = fill.fill-bytes.ensures ∙ filled_front 0 (written_result f) out _ m.result-length.result begun.bytes n (fits l) in
+    let bytes = fill.fill_bytes.ensures ∙ filled_front 0 (written_result f) out _ m.result_length-k.result begun.bytes n (fits l) in
     ap₂ (λ (i : ℕ) (o : List ℕ). writing (long i) o) n bytes ∙ write_result_served_lem f out (result_accepted f (length out) (passed e) (fits l))
 
 pub write_result_spec : {M : Type 1} → statement M

@@ -68,7 +68,7 @@ loop_holds : tie.Need-loop-i-init invariant-loop-i decreases-loop-i
 loop_holds c =
     let f = c.before.before in
     let a = (start f).args in
-    binning_none a.cols.now a.word.now (taken a.soft.now) _ _ f.fill_words.ensures f.fill_words.auto.0
+    binning_none a.cols.now a.word.now (taken a.soft.now) _ _ f.fill_words.ensures f.fill_words.auto.words
 
 mul_wide : tie.Need-offset_bounds-cols-i invariant-loop-i decreases-loop-i
 mul_wide c = search rules

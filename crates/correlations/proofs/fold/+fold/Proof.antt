@@ -77,10 +77,10 @@ module _ (t : ℕ) where
 
   -- the slice with the sums and the differences, and its halves: the second one as it is, and the first one once it is folded
   abbrev M : Crossed → List ℕ
-  M c = c.cross_halves.new.0
+  M c = c.cross_halves.new.s
 
   m_long : (c : Crossed) → length (M c) ≡ h (long c) + h (long c)
-  m_long c = c.cross_halves.auto.0 ∙ whole_long (long c)
+  m_long c = c.cross_halves.auto.s ∙ whole_long (long c)
 
   front_long : (c : Crossed) → length (take (h (long c)) (M c)) ≡ h (long c)
   front_long c = length-take (h (long c)) (M c) ∙ omega (arith, m_long c)
@@ -92,10 +92,10 @@ module _ (t : ℕ) where
   d_long c = length-drop (h (long (crossing c))) (M (crossing c)) ∙ omega (arith, m_long (crossing c))
 
   abbrev A : First → List ℕ
-  A c = c.fold.new.0
+  A c = c.fold.new.s
 
   a_long : (c : First) → length (A c) ≡ h (long (crossing c))
-  a_long c = c.fold.auto.0 ∙ front_long (crossing c)
+  a_long c = c.fold.auto.s ∙ front_long (crossing c)
 
   both_long : (c : First) → length (A c ++ D c) ≡ h (long (crossing c)) + h (long (crossing c))
   both_long c = length-append (A c) (D c) ∙ omega (arith, a_long c, d_long c)
@@ -105,7 +105,7 @@ module _ (t : ℕ) where
   lent c = second_lent (A c) (D c) (h (long (crossing c))) (a_long c)
 
   abbrev B : Second → List ℕ
-  B c = c.fold-2.new.0
+  B c = c.fold-2.new.s
 
 -- ---- the needs
 returns : (t : ℕ) → lts.Need-returns-then-r-eq0 (claims t) (bins_at t) bins.Post
@@ -148,10 +148,10 @@ mul_fold t c = search rules
 sub_fold_2 : (t : ℕ) → lts.Need-slice_bounds-fold-count (claims t) (bins_at t) bins.Post
 sub_fold_2 t c = omega (arith, both_long t c.before.before)
 
-part_fold_start : (t : ℕ) → lts.Need-slice-bounds-fold-start (claims t) (bins_at t) bins.Post
+part_fold_start : (t : ℕ) → lts.Need-slice_bounds-fold-start (claims t) (bins_at t) bins.Post
 part_fold_start t c = omega (arith, both_long t c.before.before)
 
-part_fold_end : (t : ℕ) → lts.Need-slice-bounds-fold-end (claims t) (bins_at t) bins.Post
+part_fold_end : (t : ℕ) → lts.Need-slice_bounds-fold-end (claims t) (bins_at t) bins.Post
 part_fold_end t c = omega arith
 
 sub_fold_3 : (t : ℕ) → lts.Need-overflow_sub-r-2 (claims t) (bins_at t) bins.Post
@@ -170,7 +170,7 @@ same_length_2 t c =
     let l : Long t = long t (crossing t f) in
     ap length (second_put (A t f) (D t f) (h t l) (a_long t f) (B t e))
     ∙ length-append (A t f) (B t e)
-    ∙ omega (arith, a_long t f, e.fold-2.auto.0 ∙ ap length (lent t f) ∙ d_long t f, whole_long t l)
+    ∙ omega (arith, a_long t f, e.fold-2.auto.s ∙ ap length (lent t f) ∙ d_long t f, whole_long t l)
 
 returns_3 : (t : ℕ) → lts.Need-returns (claims t) (bins_at t) bins.Post
 returns_3 t c zs q =

@@ -10,15 +10,15 @@ use Rattle.encoder.proofs.Turns.{Spreading, payload_left, spread_bit, spread_zer
 use Rattle.encoder.proofs.fill.spread_payload.Statement.{statement}
 use Rattle.encoder.proofs.fill.spread_payload.Tie as tie
 
-abbrev invariant-loop : tie.invariant-loop
-invariant-loop map payload input₀ j₀ i₀ input j i =
+abbrev invariant-loop-i : tie.invariant-loop-i
+invariant-loop-i map payload input₀ j₀ i₀ input j i =
     Spreading (length input₀) (flags_of (length input₀) map) payload input j i
 
-abbrev decreases-loop : tie.decreases-loop
-decreases-loop map payload input₀ j₀ i₀ input j i = length input₀ - i
+abbrev decreases-loop-i : tie.decreases-loop-i
+decreases-loop-i map payload input₀ j₀ i₀ input j i = length input₀ - i
 
 abbrev Turn : Type 0
-Turn = tie.After-flag invariant-loop decreases-loop
+Turn = tie.After-flag invariant-loop-i decreases-loop-i
 
 abbrev n : Turn → ℕ
 n c = length c.before.before.before.before.before.before.args.input.now
@@ -27,71 +27,71 @@ abbrev fs : Turn → List ℕ
 fs c = flags_of (n c) c.before.before.before.before.before.before.args.map.now
 
 abbrev i : Turn → ℕ
-i c = c.before.before.loop.i
+i c = c.before.before.loop-i.i
 
 counted : (c : Turn) → length (fs c) ≡ n c
 counted c =
     length_flags (n c) c.before.before.before.before.before.before.args.map.now c.before.before.before.before.before.before.requires.0
 
 in_turn : (c : Turn) → i c < n c
-in_turn c = omega (arith, c.before.loop-test.true, c.before.before.loop.invariant.long)
+in_turn c = omega (arith, c.before.loop-i-test.true, c.before.before.loop-i.invariant.long)
 
 flag_is : (c : Turn) → get_or (fs c) (i c) 0 ≡ c.flag.result
 flag_is c =
     flag_at (n c) c.before.before.before.before.before.before.args.map.now (i c) (in_turn c)
     ∙ sym c.flag.ensures
 
-bit_left : (c : Turn) → c.flag.result ≡ 0 → c.before.before.loop.j < length c.before.before.before.before.before.before.args.payload.now
-bit_left c z = payload_left c.before.before.loop.invariant (counted c) (in_turn c) (flag_is c ∙ z)
+bit_left : (c : Turn) → c.flag.result ≡ 0 → c.before.before.loop-i.j < length c.before.before.before.before.before.before.args.payload.now
+bit_left c z = payload_left c.before.before.loop-i.invariant (counted c) (in_turn c) (flag_is c ∙ z)
 
-loop_holds : tie.Need-loop-init invariant-loop decreases-loop
+loop_holds : tie.Need-loop-i-init invariant-loop-i decreases-loop-i
 loop_holds c = record { within = omega arith; long = refl; left = omega arith; so_far = refl }
 
-flag_requires : tie.Need-flag-requires invariant-loop decreases-loop
+flag_requires : tie.Need-flag-requires invariant-loop-i decreases-loop-i
 flag_requires c κs = omega arith
 
-shared_slice_read_input : tie.Need-shared-slice-read-input invariant-loop decreases-loop
-shared_slice_read_input c = omega (arith, bit_left c.before.before c.before.if1.true)
+shared_slice_read_input : tie.Need-bounds-payload-j invariant-loop-i decreases-loop-i
+shared_slice_read_input c = omega (arith, bit_left c.before.before c.before.if-flag-eq0.true)
 
-slice_write_input : tie.Need-slice-write-input invariant-loop decreases-loop
+slice_write_input : tie.Need-bounds-input-i invariant-loop-i decreases-loop-i
 slice_write_input c = omega arith
 
-add_j : tie.Need-overflow-add-j invariant-loop decreases-loop
-add_j c = omega (arith, bit_left c.before.before c.before.if1.true)
+add_j : tie.Need-overflow_add-j invariant-loop-i decreases-loop-i
+add_j c = omega (arith, bit_left c.before.before c.before.if-flag-eq0.true)
 
-slice_write_input_2 : tie.Need-slice-write-input-2 invariant-loop decreases-loop
+slice_write_input_2 : tie.Need-bounds-input-i-else-flag-eq0 invariant-loop-i decreases-loop-i
 slice_write_input_2 c = omega arith
 
-add_i : tie.Need-overflow-add-i invariant-loop decreases-loop
+add_i : tie.Need-overflow_add-i invariant-loop-i decreases-loop-i
 add_i c = omega arith
 
-loop_less : tie.Need-loop-smaller invariant-loop decreases-loop
+loop_less : tie.Need-loop-i-smaller invariant-loop-i decreases-loop-i
 loop_less c = omega arith
 
-loop_again : tie.Need-loop-preserved invariant-loop decreases-loop
+loop_again : tie.Need-loop-i-preserved invariant-loop-i decreases-loop-i
 loop_again c =
     let t = c.before in
-    let s = t.before.before.loop.invariant in
+    let s = t.before.before.loop-i.invariant in
     ⊎_elim
     (λ w. rw (w.2, w.3) (spread_bit s (counted t) (in_turn t) (flag_is t ∙ w.0.taken)))
     (λ w. rw (w.1, w.2) (spread_zero s (counted t) (in_turn t) (λ e. w.0.left (sym (flag_is t) ∙ e))))
-    c.if1.branch
+    c.if-flag-eq0.branch
 
-same_length : tie.Need-same-length invariant-loop decreases-loop
-same_length c = c.before.loop.invariant.long
+same_length : tie.Need-shape_of-input invariant-loop-i decreases-loop-i
+same_length c = c.before.loop-i.invariant.long
 
-returns : tie.Need-returns invariant-loop decreases-loop
+returns : tie.Need-returns invariant-loop-i decreases-loop-i
 returns c =
     let a = c.before.before.before.before.before in
     let n = length a.args.input.now in
-    spread_done c.before.loop.invariant (length_flags n a.args.map.now a.requires.0) (omega (arith, c.loop-test.false, c.before.loop.invariant.long))
+    spread_done c.before.loop-i.invariant (length_flags n a.args.map.now a.requires.0) (omega (arith, c.loop-i-test.false, c.before.loop-i.invariant.long))
 
 pub spread_payload_spec : {M : Type 1} → statement M
 spread_payload_spec =
     tie.close
     (tie.spec
-    invariant-loop
-    decreases-loop
+    invariant-loop-i
+    decreases-loop-i
     loop_holds
     flag_requires
     shared_slice_read_input

@@ -12,20 +12,20 @@ use Rattle.laws.specs.PairRuns.{Unsummed}
 use Rattle.extractor.proofs.gather.frozen_bit_set.Statement.{statement}
 use Rattle.extractor.proofs.gather.frozen_bit_set.Tie as tie
 
-abbrev invariant-loop : tie.invariant-loop
-invariant-loop map input from to i₀ i =
+abbrev invariant-loop-i : tie.invariant-loop-i
+invariant-loop-i map input from to i₀ i =
     (from ≤ i)
     × (i ≤ to)
     × ((c : Code) → Unsummed from to c.pairs → broken_from c input from (drop from (flags_of (length input) map))
     ≡ broken_from c input i (drop i (flags_of (length input) map)))
 
-abbrev decreases-loop : tie.decreases-loop
-decreases-loop map input from to i₀ i = to - i
+abbrev decreases-loop-i : tie.decreases-loop-i
+decreases-loop-i map input from to i₀ i = to - i
 
 abbrev Turn : Type 0
-Turn = tie.After-flag invariant-loop decreases-loop
+Turn = tie.After-flag invariant-loop-i decreases-loop-i
 
-abbrev start : Turn → tie.Start invariant-loop decreases-loop
+abbrev start : Turn → tie.Start invariant-loop-i decreases-loop-i
 start c = c.before.before.before.before.before
 
 abbrev u : Turn → List ℕ
@@ -35,10 +35,10 @@ abbrev fs : Turn → List ℕ
 fs c = flags_of (length (u c)) (start c).args.map.now
 
 abbrev i : Turn → ℕ
-i c = c.before.before.loop.i
+i c = c.before.before.loop-i.i
 
 within : (c : Turn) → i c < length (u c)
-within c = omega (arith, c.before.loop-test.true, (start c).requires.2)
+within c = omega (arith, c.before.loop-i-test.true, (start c).requires.2)
 
 inside : (c : Turn) → i c < length (fs c)
 inside c = omega (arith, within c, length_flags (length (u c)) (start c).args.map.now (start c).requires.0)
@@ -49,54 +49,54 @@ flag_is c = flag_at (length (u c)) (start c).args.map.now (i c) (within c) ∙ s
 -- the sum at the position
 sum_is : (c : Turn) (k : Code) → Unsummed (start c).args.from (start c).args.to k.pairs → frozen_bit k (i c) (u c) ≡ 0
 unfolding frozen_bit
-sum_is c k a = a (i c) (u c) c.before.before.loop.invariant.0 c.before.loop-test.true
+sum_is c k a = a (i c) (u c) c.before.before.loop-i.invariant.0 c.before.loop-i-test.true
 
-loop_holds : tie.Need-loop-init invariant-loop decreases-loop
+loop_holds : tie.Need-loop-i-init invariant-loop-i decreases-loop-i
 loop_holds c = (omega arith, c.before.before.requires.1, λ k a. refl)
 
-flag_requires : tie.Need-flag-requires invariant-loop decreases-loop
+flag_requires : tie.Need-flag-requires invariant-loop-i decreases-loop-i
 flag_requires c κs = omega arith
 
-shared_slice_read_if2 : tie.Need-shared-slice-read-if2 invariant-loop decreases-loop
+shared_slice_read_if2 : tie.Need-bounds-input-i invariant-loop-i decreases-loop-i
 shared_slice_read_if2 c = within c.before.before
 
-returns : tie.Need-returns invariant-loop decreases-loop
+returns : tie.Need-returns-then-input-i-ne0 invariant-loop-i decreases-loop-i
 returns c = λ k a.
     let t = c.before.before.before in
-    t.before.before.loop.invariant.2 k a
-    ∙ broken_here (fs t) (i t) (inside t) (λ e. c.before.before.if1.true (sym (flag_is t) ∙ e)) k (u t) (λ e. c.if2.true (e ∙ sum_is t k a))
+    t.before.before.loop-i.invariant.2 k a
+    ∙ broken_here (fs t) (i t) (inside t) (λ e. c.before.before.if-flag-ne0.true (sym (flag_is t) ∙ e)) k (u t) (λ e. c.if-input-i-ne0.true (e ∙ sum_is t k a))
 
-add_i : tie.Need-overflow-add-i invariant-loop decreases-loop
+add_i : tie.Need-overflow_add-i invariant-loop-i decreases-loop-i
 add_i c = omega arith
 
-loop_less : tie.Need-loop-smaller invariant-loop decreases-loop
+loop_less : tie.Need-loop-i-smaller invariant-loop-i decreases-loop-i
 loop_less c = omega arith
 
-loop_again : tie.Need-loop-preserved invariant-loop decreases-loop
+loop_again : tie.Need-loop-i-preserved invariant-loop-i decreases-loop-i
 loop_again c =
     let t = c.before in (
       omega arith,
       omega arith,
-      λ k a. t.before.before.loop.invariant.2 k a
+      λ k a. t.before.before.loop-i.invariant.2 k a
           ∙ ⊎_elim
           (λ w. broken_frozen (fs t) (i t) (inside t) (λ e. w.0.taken (sym (flag_is t) ∙ e)) k (u t) (w.2.left ∙ sym (sum_is t k a)))
           (λ w. broken_clear (fs t) (i t) (inside t) (flag_is t ∙ w.left) k (u t))
-          c.if1.branch,
+          c.if-flag-ne0.branch,
     )
 
-returns_2 : tie.Need-returns-2 invariant-loop decreases-loop
+returns_2 : tie.Need-returns invariant-loop-i decreases-loop-i
 returns_2 c = λ k a.
-    let l = c.before.loop in
+    let l = c.before.loop-i in
     let s = c.before.before.before.before.args in
-    let e : l.i ≡ s.to = omega (arith, l.invariant.1, c.loop-test.false) in
+    let e : l.i ≡ s.to = omega (arith, l.invariant.1, c.loop-i-test.false) in
     l.invariant.2 k a ∙ ap (λ (j : ℕ). broken_from k s.input.now j (drop j (flags_of (length s.input.now) s.map.now))) e
 
 pub frozen_bit_set_spec : {M : Type 1} → statement M
 frozen_bit_set_spec =
     tie.close
     (tie.spec
-    invariant-loop
-    decreases-loop
+    invariant-loop-i
+    decreases-loop-i
     loop_holds
     flag_requires
     shared_slice_read_if2

@@ -10,15 +10,15 @@ use Rattle.extractor.proofs.Turns.{Gathering, room_left, gather_bit, gather_none
 use Rattle.extractor.proofs.gather.gather_payload.Statement.{statement}
 use Rattle.extractor.proofs.gather.gather_payload.Tie as tie
 
-abbrev invariant-loop : tie.invariant-loop
-invariant-loop map input payload₀ j₀ i₀ payload j i =
+abbrev invariant-loop-i : tie.invariant-loop-i
+invariant-loop-i map input payload₀ j₀ i₀ payload j i =
     Gathering (length input) (flags_of (length input) map) input payload (length payload₀) j i
 
-abbrev decreases-loop : tie.decreases-loop
-decreases-loop map input payload₀ j₀ i₀ payload j i = length input - i
+abbrev decreases-loop-i : tie.decreases-loop-i
+decreases-loop-i map input payload₀ j₀ i₀ payload j i = length input - i
 
 abbrev Turn : Type 0
-Turn = tie.After-flag invariant-loop decreases-loop
+Turn = tie.After-flag invariant-loop-i decreases-loop-i
 
 abbrev u : Turn → List ℕ
 u c = c.before.before.before.before.before.before.args.input.now
@@ -27,7 +27,7 @@ abbrev fs : Turn → List ℕ
 fs c = flags_of (length (u c)) c.before.before.before.before.before.before.args.map.now
 
 abbrev i : Turn → ℕ
-i c = c.before.before.loop.i
+i c = c.before.before.loop-i.i
 
 counted : (c : Turn) → length (fs c) ≡ length (u c)
 counted c =
@@ -35,58 +35,58 @@ counted c =
 
 flag_is : (c : Turn) → get_or (fs c) (i c) 0 ≡ c.flag.result
 flag_is c =
-    flag_at (length (u c)) c.before.before.before.before.before.before.args.map.now (i c) c.before.loop-test.true
+    flag_at (length (u c)) c.before.before.before.before.before.before.args.map.now (i c) c.before.loop-i-test.true
     ∙ sym c.flag.ensures
 
-room : (c : Turn) → c.flag.result ≡ 0 → c.before.before.loop.j < length c.before.before.before.before.before.before.args.payload.now
-room c z = room_left c.before.before.loop.invariant (counted c) refl c.before.loop-test.true (flag_is c ∙ z)
+room : (c : Turn) → c.flag.result ≡ 0 → c.before.before.loop-i.j < length c.before.before.before.before.before.before.args.payload.now
+room c z = room_left c.before.before.loop-i.invariant (counted c) refl c.before.loop-i-test.true (flag_is c ∙ z)
 
-loop_holds : tie.Need-loop-init invariant-loop decreases-loop
+loop_holds : tie.Need-loop-i-init invariant-loop-i decreases-loop-i
 loop_holds c = record { within = omega arith; long = refl; left = omega arith; so_far = refl }
 
-flag_requires : tie.Need-flag-requires invariant-loop decreases-loop
+flag_requires : tie.Need-flag-requires invariant-loop-i decreases-loop-i
 flag_requires c κs = omega arith
 
-shared_slice_read_payload : tie.Need-shared-slice-read-payload invariant-loop decreases-loop
+shared_slice_read_payload : tie.Need-bounds-input-i invariant-loop-i decreases-loop-i
 shared_slice_read_payload c = omega arith
 
-slice_write_payload : tie.Need-slice-write-payload invariant-loop decreases-loop
-slice_write_payload c = omega (arith, room c.before.before c.before.if1.true)
+slice_write_payload : tie.Need-bounds-payload-j invariant-loop-i decreases-loop-i
+slice_write_payload c = omega (arith, room c.before.before c.before.if-flag-eq0.true)
 
-add_j : tie.Need-overflow-add-j invariant-loop decreases-loop
-add_j c = omega (arith, room c.before.before c.before.if1.true)
+add_j : tie.Need-overflow_add-j invariant-loop-i decreases-loop-i
+add_j c = omega (arith, room c.before.before c.before.if-flag-eq0.true)
 
-add_i : tie.Need-overflow-add-i invariant-loop decreases-loop
+add_i : tie.Need-overflow_add-i invariant-loop-i decreases-loop-i
 add_i c = omega arith
 
-loop_less : tie.Need-loop-smaller invariant-loop decreases-loop
+loop_less : tie.Need-loop-i-smaller invariant-loop-i decreases-loop-i
 loop_less c = omega arith
 
-loop_again : tie.Need-loop-preserved invariant-loop decreases-loop
+loop_again : tie.Need-loop-i-preserved invariant-loop-i decreases-loop-i
 loop_again c =
     let t = c.before in
-    let s = t.before.before.loop.invariant in
-    let l = t.before.loop-test.true in
+    let s = t.before.before.loop-i.invariant in
+    let l = t.before.loop-i-test.true in
     ⊎_elim
     (λ w. rw (w.2, w.3) (gather_bit s (counted t) refl l (flag_is t ∙ w.0.taken)))
     (λ w. rw (w.1, w.2) (gather_none s (counted t) refl l (λ e. w.0.left (sym (flag_is t) ∙ e))))
-    c.if1.branch
+    c.if-flag-eq0.branch
 
-same_length : tie.Need-same-length invariant-loop decreases-loop
-same_length c = c.before.loop.invariant.long
+same_length : tie.Need-shape_of-payload invariant-loop-i decreases-loop-i
+same_length c = c.before.loop-i.invariant.long
 
-returns : tie.Need-returns invariant-loop decreases-loop
+returns : tie.Need-returns invariant-loop-i decreases-loop-i
 returns c =
     let a = c.before.before.before.before.before in
     let n = length a.args.input.now in
-    gather_done c.before.loop.invariant (length_flags n a.args.map.now a.requires.0) refl c.loop-test.false
+    gather_done c.before.loop-i.invariant (length_flags n a.args.map.now a.requires.0) refl c.loop-i-test.false
 
 pub gather_payload_spec : {M : Type 1} → statement M
 gather_payload_spec =
     tie.close
     (tie.spec
-    invariant-loop
-    decreases-loop
+    invariant-loop-i
+    decreases-loop-i
     loop_holds
     flag_requires
     shared_slice_read_payload

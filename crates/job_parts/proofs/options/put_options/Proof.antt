@@ -5,16 +5,16 @@ use Rattle.place.specs.Put.{then}
 use Rattle.job_parts.proofs.options.put_options.Statement.{statement}
 use Rattle.job_parts.proofs.options.put_options.Tie as tie
 
-put_unless_requires : tie.Need-put-unless-requires
+put_unless_requires : tie.Need-put_unless-a-requires
 put_unless_requires c κs = omega arith
 
-put_unless_requires_2 : tie.Need-put-unless-requires-2
+put_unless_requires_2 : tie.Need-put_unless-b-requires
 put_unless_requires_2 c κs = omega arith
 
-put_unless_requires_3 : tie.Need-put-unless-requires-3
+put_unless_requires_3 : tie.Need-put_unless-requires
 put_unless_requires_3 c κs = omega arith
 
-same_length : tie.Need-same-length
+same_length : tie.Need-shape_of-out
 same_length c = search rules
 
 returns : tie.Need-returns
@@ -22,8 +22,8 @@ returns c =
     let frame = c.before.before in
     let stop = frame.before.before.before.before in
     let size = stop.before.before.before.before in (
-      then size.put-unless.ensures.0 (then stop.put-unless2.ensures.0 frame.put-unless3.ensures.0),
-      omega (arith, size.put-unless.ensures.1, stop.put-unless2.ensures.1, frame.put-unless3.ensures.1),
+      then size.put_unless-a.ensures.0 (then stop.put_unless-b.ensures.0 frame.put_unless.ensures.0),
+      omega (arith, size.put_unless-a.ensures.1, stop.put_unless-b.ensures.1, frame.put_unless.ensures.1),
     )
 
 pub put_options_spec : {M : Type 1} → statement M

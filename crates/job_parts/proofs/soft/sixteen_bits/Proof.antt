@@ -14,44 +14,44 @@ use Rattle.laws.specs.Signed.{plain_bits}
 use Rattle.job_parts.proofs.soft.sixteen_bits.Statement.{statement}
 use Rattle.job_parts.proofs.soft.sixteen_bits.Tie as tie
 
-flipped : (c : tie.Then1) → to_z w16 (of_z w16 (negsuc 0 -ℤ to_z w16 (of_z w16 c.before.args.y))) ≡ pos (mag c.before.args.y)
-flipped c = flip_back w16 c.before.args.y c.before.ranges.y c.if1.true
+flipped : (c : tie.Then-y-lt0) → to_z w16 (of_z w16 (negsuc 0 -ℤ to_z w16 (of_z w16 c.before.args.y))) ≡ pos (mag c.before.args.y)
+flipped c = flip_back w16 c.before.args.y c.before.ranges.y c.if-y-lt0.true
 
-small : (c : tie.Then1) → mag c.before.args.y < 32768
+small : (c : tie.Then-y-lt0) → mag c.before.args.y < 32768
 small c = c.before.ranges.y.sfits
 
-plain_back : (c : tie.Else1) → to_z w16 (of_z w16 c.before.args.y) ≡ c.before.args.y
+plain_back : (c : tie.Else-y-lt0) → to_z w16 (of_z w16 c.before.args.y) ≡ c.before.args.y
 plain_back c = to_z-of_z w16 c.before.args.y c.before.ranges.y
 
-sub_result : tie.Need-overflow-sub-result
-sub_result c = flip_fits w16 c.before.args.y c.before.ranges.y c.if1.true
+sub_result : tie.Need-overflow_sub-result
+sub_result c = flip_fits w16 c.before.args.y c.before.ranges.y c.if-y-lt0.true
 
-cast_result : tie.Need-overflow-cast-result
+cast_result : tie.Need-overflow_cast-result
 cast_result c = (
   subst (λ (z : ℤ). T (non_neg z)) (sym (flipped c)) tt,
   record { fits = subst (λ (z : ℤ). nat_abs z < 4294967296) (sym (flipped c)) (omega (arith, small c)) },
 )
 
-sub_result_2 : tie.Need-overflow-sub-result-2
+sub_result_2 : tie.Need-overflow_sub-result-then-y-lt0
 sub_result_2 c = omega (arith, small c, ap nat_abs (flipped c))
 
-returns : tie.Need-returns
+returns : tie.Need-returns-then-y-lt0
 returns c =
     let y = c.before.args.y in
-    let b : y ≡ negsuc (mag y) = is_negative w16 y c.before.ranges.y c.if1.true in
+    let b : y ≡ negsuc (mag y) = is_negative w16 y c.before.ranges.y c.if-y-lt0.true in
     ap (λ (v : ℤ). 65535 - nat_abs v) (flipped c) ∙ sym (ap sixteen_bits b)
 
-cast_result_2 : tie.Need-overflow-cast-result-2
+cast_result_2 : tie.Need-overflow_cast-result-2
 cast_result_2 c =
     let y = c.before.args.y in
     let f = c.before.ranges.y in
-    (not_below w16 y f c.if1.false, record { fits = subst (λ (v : ℤ). nat_abs v < 4294967296) (sym (plain_back c)) (omega (arith, nat_abs-le y f.sfits)) })
+    (not_below w16 y f c.if-y-lt0.false, record { fits = subst (λ (v : ℤ). nat_abs v < 4294967296) (sym (plain_back c)) (omega (arith, nat_abs-le y f.sfits)) })
 
-returns_2 : tie.Need-returns-2
+returns_2 : tie.Need-returns
 returns_2 c =
     let y = c.before.args.y in
     let f = c.before.ranges.y in
-    ap nat_abs (plain_back c) ∙ plain_bits 65535 y (subst (λ (v : ℤ). T (non_neg v)) (plain_back c) (not_below w16 y f c.if1.false))
+    ap nat_abs (plain_back c) ∙ plain_bits 65535 y (subst (λ (v : ℤ). T (non_neg v)) (plain_back c) (not_below w16 y f c.if-y-lt0.false))
 
 pub sixteen_bits_spec : {M : Type 1} → statement M
 sixteen_bits_spec =

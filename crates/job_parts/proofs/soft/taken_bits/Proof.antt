@@ -7,16 +7,16 @@ use Rattle.spec.specs.RecordOf.{sixteen_bits}
 use Rattle.job_parts.proofs.soft.taken_bits.Statement.{statement}
 use Rattle.job_parts.proofs.soft.taken_bits.Tie as tie
 
-taken_at_requires : tie.Need-taken-at-requires
+taken_at_requires : tie.Need-taken_at-y-requires
 taken_at_requires c κs = search rules
 
-sixteen_bits_requires : tie.Need-sixteen-bits-requires
+sixteen_bits_requires : tie.Need-sixteen_bits-requires
 sixteen_bits_requires c κs = search rules
 
 returns : tie.Need-returns
 returns c =
-    let t = c.before.taken_at in
-    c.sixteen-bits.ensures ∙ ap sixteen_bits (to_z-of_z w16 t.result (record { sfits = t.type-inv }) ∙ t.ensures)
+    let t = c.before.taken_at-y in
+    c.sixteen_bits.ensures ∙ ap sixteen_bits (to_z-of_z w16 t.result (record { sfits = t.type_inv }) ∙ t.ensures)
 
 pub taken_bits_spec : {M : Type 1} → statement M
 taken_bits_spec = tie.close (tie.spec taken_at_requires sixteen_bits_requires returns)

@@ -11,22 +11,22 @@ use Rattle.log_lines.proofs.lines.put_refused.Tie as tie
 slice_aggregate_put_named : tie.Need-slice-aggregate-put-named
 slice_aggregate_put_named c = search rules
 
-put_named_requires : tie.Need-put-named-requires
+put_named_requires : tie.Need-put_named-a-requires
 put_named_requires c κs = search rules
 
-add_put_spaces : tie.Need-overflow-add-put-spaces
+add_put_spaces : tie.Need-overflow_add-at
 add_put_spaces c = search rules
 
-sub_put_spaces : tie.Need-overflow-sub-put-spaces
+sub_put_spaces : tie.Need-overflow_sub-at
 sub_put_spaces c = search rules
 
-put_spaces_requires : tie.Need-put-spaces-requires
+put_spaces_requires : tie.Need-put_spaces-b-requires
 put_spaces_requires c κs = search rules
 
-put_byte_requires : tie.Need-put-byte-requires
+put_byte_requires : tie.Need-put_byte-requires
 put_byte_requires c κs = search rules
 
-same_length : tie.Need-same-length
+same_length : tie.Need-shape_of-out
 same_length c = search rules
 
 returns : tie.Need-returns
@@ -37,11 +37,11 @@ returns c =
     let name = gap.before.before.before.before in
     let s = name.before.before.before.before in
     let a = s.args in
-    let place : name.put-named.result ≡ a.at + length (refused_word ++ decimal a.k) = name.put-named.ensures.0.place in
-    let k : a.at + 43 - name.put-named.result ≡ 43 - length (refused_word ++ decimal a.k) = omega arith in
-    let filled = put_same gap.put-spaces.ensures.0 (ap spaces k) in (
-      then (then name.put-named.ensures.0 filled) feed.put_byte.ensures.0,
-      omega (arith, feed.put_byte.ensures.0.place, gap.put-spaces.ensures.1, name.put-named.ensures.1),
+    let place : name.put_named-a.result ≡ a.at + length (refused_word ++ decimal a.k) = name.put_named-a.ensures.0.place in
+    let k : a.at + 43 - name.put_named-a.result ≡ 43 - length (refused_word ++ decimal a.k) = omega arith in
+    let filled = put_same gap.put_spaces-b.ensures.0 (ap spaces k) in (
+      then (then name.put_named-a.ensures.0 filled) feed.put_byte.ensures.0,
+      omega (arith, feed.put_byte.ensures.0.place, gap.put_spaces-b.ensures.1, name.put_named-a.ensures.1),
     )
 
 pub put_refused_spec : {M : Type 1} → statement M

@@ -14,9 +14,9 @@ start m = m.before.before.before.before.before.before.before
 text_is : (m : tie.After-minus) → decimal m.minus.result ≡ signed_decimal ((start m).args.y -ℤ (start m).args.z)
 text_is m =
     let s = start m in
-    ap signed_decimal (sym m.minus.ensures ∙ ap₂ ◌-ℤ◌ (to_z-of_z w32 s.args.y s.fits.y) (to_z-of_z w32 s.args.z s.fits.z))
+    ap signed_decimal (sym m.minus.ensures ∙ ap₂ ◌-ℤ◌ (to_z-of_z w32 s.args.y s.ranges.y) (to_z-of_z w32 s.args.z s.ranges.z))
 
-put_byte_requires : tie.Need-put-byte-requires
+put_byte_requires : tie.Need-put_byte-gap-requires
 put_byte_requires c κs = search rules
 
 minus_requires : tie.Need-minus-requires
@@ -24,13 +24,13 @@ minus_requires c κs =
     let s = c.before.before.before.before.before.before in
     ap₂ lt_z (to_z-of_z w32 s.args.y s.ranges.y) (to_z-of_z w32 s.args.z s.ranges.z) ∙ s.requires.0
 
-put_number_right_requires : tie.Need-put-number-right-requires
+put_number_right_requires : tie.Need-put_number_right-requires
 put_number_right_requires c κs =
     let s = start c in
     let p = c.before.before.before.before in
-    (omega (arith, decimal_32 c.minus.result c.minus.type-inv), omega (arith, s.pre.1, p.put_byte.ensures.0.place))
+    (omega (arith, decimal_32 c.minus.result c.minus.type_inv), omega (arith, s.requires.1, p.put_byte-gap.ensures.0.place))
 
-same_length : tie.Need-same-length
+same_length : tie.Need-shape_of-out
 same_length c = search rules
 
 returns : tie.Need-returns
@@ -38,8 +38,8 @@ returns c =
     let r = c.before.before in
     let m = r.before in
     let p = m.before.before.before.before in (
-      then p.put_byte.ensures.0 (put_same r.put-number-right.ensures.0 (ap (right 12) (text_is m))),
-      omega (arith, r.put-number-right.ensures.1, p.put_byte.ensures.0.place),
+      then p.put_byte-gap.ensures.0 (put_same r.put_number_right.ensures.0 (ap (right 12) (text_is m))),
+      omega (arith, r.put_number_right.ensures.1, p.put_byte-gap.ensures.0.place),
     )
 
 pub put_difference_spec : {M : Type 1} → statement M

@@ -12,8 +12,8 @@ use Rattle.quantise.proofs.refusals.sample_refusal.Statement.{statement}
 use Rattle.quantise.proofs.refusals.sample_refusal.Tie as tie
 
 -- m is in range past the first two tests
-ok1 : (c : tie.Else2) → outside 2 10 c.before.before.args.m ≡ false
-ok1 c = inside 2 10 _ c.before.if1.false c.if2.false
+ok1 : (c : tie.Else-m-gt10) → outside 2 10 c.before.before.args.m ≡ false
+ok1 c = inside 2 10 _ c.before.if-m-lt2.false c.if-m-gt10.false
 
 -- the tests of the length and of the room are of n, which is 2 ^ m
 length_test : {n p : ℕ} → n ≡ p → (bytes : ℕ) (b : Bool) → not (eqb bytes (4 * n)) ≡ b → not (eqb bytes (4 * p)) ≡ b
@@ -22,41 +22,41 @@ length_test e bytes b t = ap (λ (k : ℕ). not (eqb bytes (4 * k))) (sym e) ∙
 room_test : {n p : ℕ} → n ≡ p → (softs : ℕ) (b : Bool) → ltb softs n ≡ b → ltb softs p ≡ b
 room_test e softs b t = ap (ltb softs) (sym e) ∙ t
 
-returns : tie.Need-returns
+returns : tie.Need-returns-then-m-lt2
 returns c =
     let a = c.before.args in
-    refused_by_lem a.m a.bytes a.softs 1 (here (below 2 10 a.m c.if1.true))
+    refused_by_lem a.m a.bytes a.softs 1 (here (below 2 10 a.m c.if-m-lt2.true))
 
-returns_2 : tie.Need-returns-2
+returns_2 : tie.Need-returns-then-m-gt10
 returns_2 c =
     let a = c.before.before.args in
-    refused_by_lem a.m a.bytes a.softs 1 (here (above 2 10 a.m c.if2.true))
+    refused_by_lem a.m a.bytes a.softs 1 (here (above 2 10 a.m c.if-m-gt10.true))
 
-size_requires : tie.Need-size-requires
+size_requires : tie.Need-size-n-requires
 size_requires c κs = search rules
 
-mul_wrong : tie.Need-overflow-mul-wrong
+mul_wrong : tie.Need-overflow_mul-wrong
 mul_wrong c = search rules
 
-returns_3 : tie.Need-returns-3
+returns_3 : tie.Need-returns-then-wrong
 returns_3 c =
     let z = c.before in
     let x = z.before.before.before.args in
-    refused_by_lem x.m x.bytes x.softs 6 (later (ok1 z.before) (here (length_test z.size.ensures.0 x.bytes true c.if3.true)))
+    refused_by_lem x.m x.bytes x.softs 6 (later (ok1 z.before) (here (length_test z.size-n.ensures.0 x.bytes true c.if-wrong.true)))
 
-returns_4 : tie.Need-returns-4
+returns_4 : tie.Need-returns-then-short
 returns_4 c =
     let z = c.before.before in
     let x = z.before.before.before.args in
     refused_by_lem x.m x.bytes x.softs 10
-    (later (ok1 z.before) (later (length_test z.size.ensures.0 x.bytes false c.before.if3.false) (here (room_test z.size.ensures.0 x.softs true c.if4.true))))
+    (later (ok1 z.before) (later (length_test z.size-n.ensures.0 x.bytes false c.before.if-wrong.false) (here (room_test z.size-n.ensures.0 x.softs true c.if-short.true))))
 
-returns_5 : tie.Need-returns-5
+returns_5 : tie.Need-returns
 returns_5 c =
     let z = c.before.before in
     let x = z.before.before.before.args in
     refused_by_lem x.m x.bytes x.softs 0
-    (later (ok1 z.before) (later (length_test z.size.ensures.0 x.bytes false c.before.if3.false) (later (room_test z.size.ensures.0 x.softs false c.if4.false) none)))
+    (later (ok1 z.before) (later (length_test z.size-n.ensures.0 x.bytes false c.before.if-wrong.false) (later (room_test z.size-n.ensures.0 x.softs false c.if-short.false) none)))
 
 pub sample_refusal_spec : {M : Type 1} → statement M
 sample_refusal_spec =

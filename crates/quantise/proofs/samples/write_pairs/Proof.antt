@@ -57,78 +57,78 @@ module _ (s : List ℕ) (t o : List ℤ) (j : ℕ) (h : 2 * j + 1 < length t) (e
       front_more (done ++ (v ∷ [])) t (set o (2 * j) v) (2 * j + 1) w l h (front_more done t o (2 * j) v (length_pairs s 0 j) (omega arith) e)
       ∙ ap₂ (λ (a : List ℤ) (n : ℕ). a ++ drop n t) (sym both) past
 
-abbrev invariant-loop : tie.invariant-loop
-invariant-loop bytes pairs soft₀ j₀ soft j = (j ≤ pairs) × (length soft ≡ length soft₀) × (soft ≡ soft_pairs bytes 0 j ++ drop (2 * j) soft₀)
+abbrev invariant-loop-j : tie.invariant-loop-j
+invariant-loop-j bytes pairs soft₀ j₀ soft j = (j ≤ pairs) × (length soft ≡ length soft₀) × (soft ≡ soft_pairs bytes 0 j ++ drop (2 * j) soft₀)
 
-abbrev decreases-loop : tie.decreases-loop
-decreases-loop bytes pairs soft₀ j₀ soft j = pairs - j
+abbrev decreases-loop-j : tie.decreases-loop-j
+decreases-loop-j bytes pairs soft₀ j₀ soft j = pairs - j
 
-loop_holds : tie.Need-loop-init invariant-loop decreases-loop
+loop_holds : tie.Need-loop-j-init invariant-loop-j decreases-loop-j
 unfolding soft_pairs
 loop_holds c = (omega arith, refl, refl)
 
-mul_from : tie.Need-overflow-mul-from invariant-loop decreases-loop
+mul_from : tie.Need-overflow_mul-from invariant-loop-j decreases-loop-j
 mul_from c = omega arith
 
-add_to : tie.Need-overflow-add-to invariant-loop decreases-loop
+add_to : tie.Need-overflow_add-to invariant-loop-j decreases-loop-j
 add_to c = omega arith
 
-sub_sample_of : tie.Need-overflow-sub-sample-of invariant-loop decreases-loop
+sub_sample_of : tie.Need-slice_bounds-sample_of-count invariant-loop-j decreases-loop-j
 sub_sample_of c = omega arith
 
-part_sample_of_start : tie.Need-slice-bounds-sample-of-start invariant-loop decreases-loop
+part_sample_of_start : tie.Need-slice_bounds-sample_of-start invariant-loop-j decreases-loop-j
 part_sample_of_start c = omega arith
 
-part_sample_of_end : tie.Need-slice-bounds-sample-of-end invariant-loop decreases-loop
+part_sample_of_end : tie.Need-slice_bounds-sample_of-end invariant-loop-j decreases-loop-j
 part_sample_of_end c = omega arith
 
-sample_of_requires : tie.Need-sample-of-requires invariant-loop decreases-loop
+sample_of_requires : tie.Need-sample_of-s-requires invariant-loop-j decreases-loop-j
 sample_of_requires c κs =
     let l = c.before.before in
-    let j = l.loop.j in
+    let j = l.loop-j.j in
     let h : 8 * j + 8 ≤ length l.before.before.args.bytes.now = omega arith in
     eight_long l.before.before.args.bytes.now (8 * j) (8 * j + 8 - 8 * j) (omega arith) h
 
-mul_quantise_sample : tie.Need-overflow-mul-quantise-sample invariant-loop decreases-loop
+mul_quantise_sample : tie.Need-overflow_mul-j invariant-loop-j decreases-loop-j
 mul_quantise_sample c = omega arith
 
-quantise_sample_requires : tie.Need-quantise-sample-requires invariant-loop decreases-loop
+quantise_sample_requires : tie.Need-quantise_sample-requires invariant-loop-j decreases-loop-j
 quantise_sample_requires c κs = omega arith
 
-add_j : tie.Need-overflow-add-j invariant-loop decreases-loop
+add_j : tie.Need-overflow_add-j invariant-loop-j decreases-loop-j
 add_j c = omega arith
 
-loop_less : tie.Need-loop-smaller invariant-loop decreases-loop
+loop_less : tie.Need-loop-j-smaller invariant-loop-j decreases-loop-j
 loop_less c = omega arith
 
-loop_again : tie.Need-loop-preserved invariant-loop decreases-loop
+loop_again : tie.Need-loop-j-preserved invariant-loop-j decreases-loop-j
 loop_again c =
-    let q = c.before.quantise-sample in
-    let r = c.before.before.before.sample-of in
+    let q = c.before.quantise_sample in
+    let r = c.before.before.before.sample_of-s in
     let l = c.before.before.before.before.before.before in
     let a = l.before.before.args in
     let s = a.bytes.now in
-    let j = l.loop.j in
+    let j = l.loop-j.j in
     let h : 2 * j + 1 < length a.soft.now = omega arith in
     let eight : 8 * j + 8 - 8 * j ≡ 8 = omega arith in
     let re = part_of_lem s (8 * j) (8 * j + 8 - 8 * j) eight r.result.re 0 (omega arith) r.ensures.0 r.ensures.2 in
     let im = part_of_lem s (8 * j) (8 * j + 8 - 8 * j) eight r.result.im 4 (omega arith) r.ensures.1 r.ensures.3 in
     let first : 8 * j + 0 ≡ 8 * j = omega arith in (
       omega arith,
-      q.auto.1.0 ∙ l.loop.invariant.1,
-      q.ensures ∙ pair_written s a.soft.now l.loop.soft j h l.loop.invariant.2 _ _ (re ∙ ap (λ (n : ℕ). soft_of (four_at s n)) first) im,
+      q.auto.soft ∙ l.loop-j.invariant.1,
+      q.ensures ∙ pair_written s a.soft.now l.loop-j.soft j h l.loop-j.invariant.2 _ _ (re ∙ ap (λ (n : ℕ). soft_of (four_at s n)) first) im,
     )
 
-same_length : tie.Need-same-length invariant-loop decreases-loop
+same_length : tie.Need-shape_of-soft invariant-loop-j decreases-loop-j
 same_length c = omega arith
 
-returns : tie.Need-returns invariant-loop decreases-loop
+returns : tie.Need-returns invariant-loop-j decreases-loop-j
 returns c =
     let l = c.before in
     let a = l.before.before.args in
-    let e : l.loop.j ≡ a.pairs = omega (arith, c.loop-test.false) in
+    let e : l.loop-j.j ≡ a.pairs = omega (arith, c.loop-j-test.false) in
     let w : 2 * a.pairs ≡ length a.soft.now = omega arith in
-    l.loop.invariant.2
+    l.loop-j.invariant.2
     ∙ ap (λ (k : ℕ). soft_pairs a.bytes.now 0 k ++ drop (2 * k) a.soft.now) e
     ∙ ap (λ (k : ℕ). soft_pairs a.bytes.now 0 a.pairs ++ drop k a.soft.now) w
     ∙ rw (drop-length a.soft.now) (append-nil (soft_pairs a.bytes.now 0 a.pairs))
@@ -137,8 +137,8 @@ pub write_pairs_spec : {M : Type 1} → statement M
 write_pairs_spec =
     tie.close
     (tie.spec
-    invariant-loop
-    decreases-loop
+    invariant-loop-j
+    decreases-loop-j
     loop_holds
     mul_from
     add_to

@@ -15,13 +15,13 @@ use Rattle.result_writer.proofs.host.write_result_for_host.Tie as tie
 answered : {a b : RecordLength} {out : List ℕ} → a ≡ b → host_writing a out ≡ host_writing b out
 answered {out = out} e = ap (λ (a : RecordLength). host_writing a out) e
 
-write_result_requires : tie.Need-write-result-requires
+write_result_requires : tie.Need-write_result-answer-requires
 write_result_requires c κs = search rules
 
-length_for_host_requires : tie.Need-length-for-host-requires
+length_for_host_requires : tie.Need-length_for_host-requires
 length_for_host_requires c κs = search rules
 
-same_length : tie.Need-same-length
+same_length : tie.Need-shape_of-out
 same_length c = search rules
 
 returns : tie.Need-returns
@@ -30,7 +30,7 @@ returns c =
     let s = w.before.before.before.before in
     let x = s.args in
     let same = to_z-of_z w32 x.ceiling s.ranges.ceiling in
-    answered c.length-for-host.ensures ∙ ap length_for_host w.write-result.ensures
+    answered c.length_for_host.ensures ∙ ap length_for_host w.write_result-answer.ensures
     ∙ ap (λ (z : ℤ). length_for_host (write_result_outcome (result_of x.m x.rows x.frame z x.scores.now x.inputs.now) x.out.now)) same
 
 pub write_result_for_host_spec : {M : Type 1} → statement M

@@ -8,25 +8,25 @@ use borrow.Author.Rules.{rules}
 use Rattle.result_writer.proofs.parts.put_head.Statement.{statement}
 use Rattle.result_writer.proofs.parts.put_head.Tie as tie
 
-put_byte_requires : tie.Need-put-byte-requires
+put_byte_requires : tie.Need-put_byte-a-requires
 put_byte_requires c κs = search rules
 
-low_byte_requires : tie.Need-low-byte-requires
+low_byte_requires : tie.Need-low_byte-requires
 low_byte_requires c κs = search rules
 
-put_byte_requires_2 : tie.Need-put-byte-requires-2
+put_byte_requires_2 : tie.Need-put_byte-b-requires
 put_byte_requires_2 c κs = search rules
 
-low_byte_requires_2 : tie.Need-low-byte-requires-2
+low_byte_requires_2 : tie.Need-low_byte-requires-2
 low_byte_requires_2 c κs = search rules
 
-put_byte_requires_3 : tie.Need-put-byte-requires-3
+put_byte_requires_3 : tie.Need-put_byte-c-requires
 put_byte_requires_3 c κs = search rules
 
-put_fields_requires : tie.Need-put-fields-requires
+put_fields_requires : tie.Need-put_fields-requires
 put_fields_requires c κs = search rules
 
-same_length : tie.Need-same-length
+same_length : tie.Need-shape_of-out
 same_length c = search rules
 
 returns : tie.Need-returns
@@ -39,8 +39,8 @@ returns c =
     let small : s.args.m % 256 ≡ s.args.m = omega (arith, s.requires.0) in
     let few : s.args.rows % 256 ≡ s.args.rows = omega (arith, s.requires.1) in
     let e = ap (λ (x : ℕ). x ∷ []) (m.before.low_byte.ensures ∙ small) in
-    let f = ap (λ (x : ℕ). x ∷ []) (k.before.low-byte2.ensures ∙ few) in
-    then fields.put_byte.ensures.0 (then (put_same m.put-byte2.ensures.0 e) (then (put_same k.put-byte3.ensures.0 f) options.put-fields.ensures))
+    let f = ap (λ (x : ℕ). x ∷ []) (k.before.low_byte-2.ensures ∙ few) in
+    then fields.put_byte-a.ensures.0 (then (put_same m.put_byte-b.ensures.0 e) (then (put_same k.put_byte-c.ensures.0 f) options.put_fields.ensures))
 
 pub put_head_spec : {M : Type 1} → statement M
 put_head_spec =

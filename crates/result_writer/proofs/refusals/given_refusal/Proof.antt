@@ -15,7 +15,7 @@ use borrow.Author.Rules.{rules}
 use Rattle.result_writer.proofs.refusals.given_refusal.Statement.{statement}
 use Rattle.result_writer.proofs.refusals.given_refusal.Tie as tie
 
-abbrev start : tie.Else1 → tie.Start
+abbrev start : tie.Else-m-lt2 → tie.Start
 start c = c.before.before
 
 abbrev given : tie.Start → ℕ → ℤ → Result
@@ -26,13 +26,13 @@ abbrev from : ℕ → tie.Start → ℕ → ℤ → List Fault
 from i s frame ceiling = drop i (result_given_faults (given s frame ceiling))
 
 -- past each test
-past1 : {k : ℕ} (frame : ℕ) (ceiling : ℤ) (c : tie.Else2) → let s = start c.before in First (from 1 s frame ceiling) k → First (from 0 s frame ceiling) k
-past1 frame ceiling c = let s = start c.before in later (inside 2 10 s.args.m c.before.if1.false c.if2.false)
+past1 : {k : ℕ} (frame : ℕ) (ceiling : ℤ) (c : tie.Else-m-gt10) → let s = start c.before in First (from 1 s frame ceiling) k → First (from 0 s frame ceiling) k
+past1 frame ceiling c = let s = start c.before in later (inside 2 10 s.args.m c.before.if-m-lt2.false c.if-m-gt10.false)
 
-past2 : {k : ℕ} (frame : ℕ) (ceiling : ℤ) (c : tie.Else4) → let s = start c.before.before.before in First (from 2 s frame ceiling) k → First (from 0 s frame ceiling) k
+past2 : {k : ℕ} (frame : ℕ) (ceiling : ℤ) (c : tie.Else-rows-gt32) → let s = start c.before.before.before in First (from 2 s frame ceiling) k → First (from 0 s frame ceiling) k
 past2 frame ceiling c f =
     let s = start c.before.before.before in
-    past1 frame ceiling c.before.before (later (inside 1 32 s.args.rows c.before.if3.false c.if4.false) f)
+    past1 frame ceiling c.before.before (later (inside 1 32 s.args.rows c.before.if-rows-lt1.false c.if-rows-gt32.false) f)
 
 -- scores that are not one a row: 6 for them, or before them 6 for the inputs
 not_one_a_row : (r : Result) → (length r.scores ≡ r.rows → ⊥) → First (drop 2 (result_given_faults r)) 6
@@ -46,71 +46,71 @@ not_one_a_row r x = by_inputs (not (eqb (length r.inputs) (r.rows * size r))) re
 cells : (c : tie.After-times) → let s = start c.before.before.before.before.before.before in c.times.result ≡ s.args.rows * 2 ^ s.args.m
 cells c =
     let s = start c.before.before.before.before.before.before in
-    c.times.ensures.0 ∙ ap (λ (n : ℕ). s.args.rows * n) c.before.size.ensures.0
+    c.times.ensures.0 ∙ ap (λ (n : ℕ). s.args.rows * n) c.before.size-n.ensures.0
 
 -- past both lengths
-past4 : {k : ℕ} (frame : ℕ) (ceiling : ℤ) (c : tie.Else6) → let s = start c.before.before.before.before.before.before.before in
+past4 : {k : ℕ} (frame : ℕ) (ceiling : ℤ) (c : tie.Else-inputs-times) → let s = start c.before.before.before.before.before.before.before in
     First (from 4 s frame ceiling) k → First (from 0 s frame ceiling) k
 past4 frame ceiling c f =
     let t = c.before in
     let e = t.before.before in
     let s = start e.before.before.before.before in
     past2 frame ceiling e.before
-    (later (same (length s.args.inputs.now) (s.args.rows * 2 ^ s.args.m) (c.if6.false ∙ cells t))
-    (later (same (length s.args.scores.now) s.args.rows e.if5.false) f))
+    (later (same (length s.args.inputs.now) (s.args.rows * 2 ^ s.args.m) (c.if-inputs-times.false ∙ cells t))
+    (later (same (length s.args.scores.now) s.args.rows e.if-scores-rows.false) f))
 
-returns : tie.Need-returns
-returns c = λ frame. λ ceiling. let s = c.before.before in is_first (from 0 s frame ceiling) 1 (here (below 2 10 s.args.m c.if1.true))
+returns : tie.Need-returns-then-m-lt2
+returns c = λ frame. λ ceiling. let s = c.before.before in is_first (from 0 s frame ceiling) 1 (here (below 2 10 s.args.m c.if-m-lt2.true))
 
-returns_2 : tie.Need-returns-2
-returns_2 c = λ frame. λ ceiling. let s = start c.before in is_first (from 0 s frame ceiling) 1 (here (above 2 10 s.args.m c.if2.true))
+returns_2 : tie.Need-returns-then-m-gt10
+returns_2 c = λ frame. λ ceiling. let s = start c.before in is_first (from 0 s frame ceiling) 1 (here (above 2 10 s.args.m c.if-m-gt10.true))
 
-returns_3 : tie.Need-returns-3
+returns_3 : tie.Need-returns-then-rows-lt1
 returns_3 c = λ frame. λ ceiling.
     let s = start c.before.before in
-    is_first (from 0 s frame ceiling) 4 (past1 frame ceiling c.before (here (below 1 32 s.args.rows c.if3.true)))
+    is_first (from 0 s frame ceiling) 4 (past1 frame ceiling c.before (here (below 1 32 s.args.rows c.if-rows-lt1.true)))
 
-returns_4 : tie.Need-returns-4
+returns_4 : tie.Need-returns-then-rows-gt32
 returns_4 c = λ frame. λ ceiling.
     let s = start c.before.before.before in
-    is_first (from 0 s frame ceiling) 4 (past1 frame ceiling c.before.before (here (above 1 32 s.args.rows c.if4.true)))
+    is_first (from 0 s frame ceiling) 4 (past1 frame ceiling c.before.before (here (above 1 32 s.args.rows c.if-rows-gt32.true)))
 
-returns_5 : tie.Need-returns-5
+returns_5 : tie.Need-returns-then-scores-rows
 returns_5 c = λ frame. λ ceiling.
     let s = start c.before.before.before.before in
-    is_first (from 0 s frame ceiling) 6 (past2 frame ceiling c.before (not_one_a_row (given s frame ceiling) c.if5.true))
+    is_first (from 0 s frame ceiling) 6 (past2 frame ceiling c.before (not_one_a_row (given s frame ceiling) c.if-scores-rows.true))
 
-size_requires : tie.Need-size-requires
+size_requires : tie.Need-size-n-requires
 size_requires c κs = search rules
 
 times_requires : tie.Need-times-requires
 times_requires c κs = search rules
 
-returns_6 : tie.Need-returns-6
+returns_6 : tie.Need-returns-then-inputs-times
 returns_6 c = λ frame. λ ceiling.
     let t = c.before in
     let e = t.before.before in
     let s = start e.before.before.before.before in
     is_first (from 0 s frame ceiling) 6
     (past2 frame ceiling e.before
-    (here (differ (length s.args.inputs.now) (s.args.rows * 2 ^ s.args.m) (λ q. c.if6.true (q ∙ sym (cells t))))))
+    (here (differ (length s.args.inputs.now) (s.args.rows * 2 ^ s.args.m) (λ q. c.if-inputs-times.true (q ∙ sym (cells t))))))
 
-some_not_bit_requires : tie.Need-some-not-bit-requires
+some_not_bit_requires : tie.Need-some_not_bit-requires
 some_not_bit_requires c κs = search rules
 
-returns_7 : tie.Need-returns-7
+returns_7 : tie.Need-returns-then-some_not_bit
 returns_7 c = λ frame. λ ceiling.
     let b = c.before in
     let l = b.before in
     let s = start l.before.before.before.before.before.before.before in
-    is_first (from 0 s frame ceiling) 11 (past4 frame ceiling l (here (sym b.some-not-bit.ensures ∙ c.if7.true)))
+    is_first (from 0 s frame ceiling) 11 (past4 frame ceiling l (here (sym b.some_not_bit.ensures ∙ c.if-some_not_bit.true)))
 
-returns_8 : tie.Need-returns-8
+returns_8 : tie.Need-returns
 returns_8 c = λ frame. λ ceiling.
     let b = c.before in
     let l = b.before in
     let s = start l.before.before.before.before.before.before.before in
-    is_first (from 0 s frame ceiling) 0 (past4 frame ceiling l (later (sym b.some-not-bit.ensures ∙ c.if7.false) none))
+    is_first (from 0 s frame ceiling) 0 (past4 frame ceiling l (later (sym b.some_not_bit.ensures ∙ c.if-some_not_bit.false) none))
 
 pub given_refusal_spec : {M : Type 1} → statement M
 given_refusal_spec =

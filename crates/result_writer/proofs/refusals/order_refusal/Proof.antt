@@ -25,35 +25,35 @@ lower : (c : tie.After-below) (b : Bool) → let s = c.before.before.before.befo
 lower c b e =
     let s = c.before.before.before.before in
     sym (c.below.ensures
-    ∙ ap₂ lt_z (to_z-of_z w32 s.args.ceiling s.ranges.ceiling) (to_z-of_z w32 (first_score s.args.scores.now) (record { sfits = c.before.below-arg.given }))) ∙ e
+    ∙ ap₂ lt_z (to_z-of_z w32 s.args.ceiling s.ranges.ceiling) (to_z-of_z w32 (first_score s.args.scores.now) (record { sfits = c.before.below-arg-1.given }))) ∙ e
 
-scores_rise_requires : tie.Need-scores-rise-requires
+scores_rise_requires : tie.Need-scores_rise-requires
 scores_rise_requires c κs = search rules
 
-returns : tie.Need-returns
+returns : tie.Need-returns-then-scores_rise
 returns c = λ m. λ rows. λ frame. λ inputs.
     let r = c.before in
-    is_first (table r.before m rows frame inputs) 22 (here (sym r.scores-rise.ensures ∙ c.if1.true))
+    is_first (table r.before m rows frame inputs) 22 (here (sym r.scores_rise.ensures ∙ c.if-scores_rise.true))
 
-shared_slice_copy_out_below : tie.Need-shared-slice-copy-out-below
+shared_slice_copy_out_below : tie.Need-bounds-scores-0
 shared_slice_copy_out_below c = search rules
 
 below_requires : tie.Need-below-requires
 below_requires c κs = search rules
 
-returns_2 : tie.Need-returns-2
+returns_2 : tie.Need-returns-then-below
 returns_2 c = λ m. λ rows. λ frame. λ inputs.
     let b = c.before in
     let e = b.before.before in
     let r = e.before in
-    is_first (table r.before m rows frame inputs) 22 (later (sym r.scores-rise.ensures ∙ e.if1.false) (here (lower b true c.if2.true)))
+    is_first (table r.before m rows frame inputs) 22 (later (sym r.scores_rise.ensures ∙ e.if-scores_rise.false) (here (lower b true c.if-below.true)))
 
-returns_3 : tie.Need-returns-3
+returns_3 : tie.Need-returns
 returns_3 c = λ m. λ rows. λ frame. λ inputs.
     let b = c.before in
     let e = b.before.before in
     let r = e.before in
-    is_first (table r.before m rows frame inputs) 0 (later (sym r.scores-rise.ensures ∙ e.if1.false) (later (lower b false c.if2.false) none))
+    is_first (table r.before m rows frame inputs) 0 (later (sym r.scores_rise.ensures ∙ e.if-scores_rise.false) (later (lower b false c.if-below.false) none))
 
 pub order_refusal_spec : {M : Type 1} → statement M
 order_refusal_spec =

@@ -14,7 +14,7 @@ use borrow.Author.Rules.{rules}
 use Rattle.result_writer.proofs.refusals.result_refusal.Statement.{statement}
 use Rattle.result_writer.proofs.refusals.result_refusal.Tie as tie
 
-abbrev start : tie.After-given-refusal → tie.Start
+abbrev start : tie.After-given_refusal-refusal → tie.Start
 start c = c.before.before
 
 abbrev given : tie.Start → ℕ → ℤ → Result
@@ -28,32 +28,32 @@ a_score r e = go (of_first (result_given_faults r) 0 e)
     go (later a (later b (later c (later d (later f none))))) =
         omega (arith, (inside_of 1 32 r.rows b).0, same_of (length r.scores) r.rows d)
 
-given_refusal_requires : tie.Need-given-refusal-requires
+given_refusal_requires : tie.Need-given_refusal-refusal-requires
 given_refusal_requires c κs = search rules
 
-returns : tie.Need-returns
+returns : tie.Need-returns-then-refusal-ne0
 returns c = λ frame.
     let g = c.before in
     let s = start g in
-    first_before (result_given_faults (given s frame s.args.ceiling)) (result_order_faults (given s frame s.args.ceiling)) g.given-refusal.result
-    (g.given-refusal.ensures frame s.args.ceiling) c.if1.true
+    first_before (result_given_faults (given s frame s.args.ceiling)) (result_order_faults (given s frame s.args.ceiling)) g.given_refusal-refusal.result
+    (g.given_refusal-refusal.ensures frame s.args.ceiling) c.if-refusal-ne0.true
 
-order_refusal_requires : tie.Need-order-refusal-requires
+order_refusal_requires : tie.Need-order_refusal-requires
 order_refusal_requires c κs =
     let g = c.before in
     let s = start g in
-    a_score (given s 0 s.args.ceiling) (sym c.if1.false ∙ g.given-refusal.ensures 0 s.args.ceiling)
+    a_score (given s 0 s.args.ceiling) (sym c.if-refusal-ne0.false ∙ g.given_refusal-refusal.ensures 0 s.args.ceiling)
 
-returns_2 : tie.Need-returns-2
+returns_2 : tie.Need-returns
 returns_2 c = λ frame.
     let e = c.before in
     let g = e.before in
     let s = start g in
-    let same = to_z-of_z w32 s.args.ceiling s.fits.ceiling in
+    let same = to_z-of_z w32 s.args.ceiling s.ranges.ceiling in
     let r = given s frame s.args.ceiling in
-    first_after (result_given_faults r) (result_order_faults r) g.given-refusal.result (g.given-refusal.ensures frame s.args.ceiling)
-    (result_given_numbers r) e.if1.false c.order-refusal.result
-    (c.order-refusal.ensures s.args.m s.args.rows frame s.args.inputs.now ∙ ap (λ (z : ℤ). first (result_order_faults (given s frame z))) same)
+    first_after (result_given_faults r) (result_order_faults r) g.given_refusal-refusal.result (g.given_refusal-refusal.ensures frame s.args.ceiling)
+    (result_given_numbers r) e.if-refusal-ne0.false c.order_refusal.result
+    (c.order_refusal.ensures s.args.m s.args.rows frame s.args.inputs.now ∙ ap (λ (z : ℤ). first (result_order_faults (given s frame z))) same)
 
 pub result_refusal_spec : {M : Type 1} → statement M
 result_refusal_spec =

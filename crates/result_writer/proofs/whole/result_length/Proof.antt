@@ -13,22 +13,22 @@ use borrow.Author.Rules.{rules}
 use Rattle.result_writer.proofs.whole.result_length.Statement.{statement}
 use Rattle.result_writer.proofs.whole.result_length.Tie as tie
 
-shared_slice_copy_out_thirty_two_bits : tie.Need-shared-slice-copy-out-thirty-two-bits
+shared_slice_copy_out_thirty_two_bits : tie.Need-bounds-scores-0
 shared_slice_copy_out_thirty_two_bits c = search rules
 
-thirty_two_bits_requires : tie.Need-thirty-two-bits-requires
+thirty_two_bits_requires : tie.Need-thirty_two_bits-first-requires
 thirty_two_bits_requires c κs = search rules
 
-thirty_two_bits_requires_2 : tie.Need-thirty-two-bits-requires-2
+thirty_two_bits_requires_2 : tie.Need-thirty_two_bits-top-requires
 thirty_two_bits_requires_2 c κs = search rules
 
-fields_byte_requires : tie.Need-fields-byte-requires
+fields_byte_requires : tie.Need-fields_byte-fields-requires
 fields_byte_requires c κs = search rules
 
-cast_length_of : tie.Need-overflow-cast-length-of
+cast_length_of : tie.Need-overflow_cast-fields
 cast_length_of c = search rules
 
-length_of_requires : tie.Need-length-of-requires
+length_of_requires : tie.Need-length_of-requires
 length_of_requires c κs = search rules
 
 returns : tie.Need-returns
@@ -40,14 +40,14 @@ returns c =
     let s = a.before in
     let x = s.args in
     let ys = x.scores.now in
-    let head = f.thirty-two-bits.ensures ∙ ap thirty_two_bits (to_z-of_z w32 (first_score ys) (record { sfits = a.thirty-two-bits-arg.given })) in
-    let top = t.thirty-two-bits2.ensures ∙ ap thirty_two_bits (to_z-of_z w32 x.ceiling s.ranges.ceiling) in
-    let byte : b.fields-byte.result ≡ field_bit (unless 0 x.frame) + 2 * field_bit (unless (thirty_two_bits (first_score ys)) (thirty_two_bits x.ceiling))
-    = b.fields-byte.ensures.0 ∙ ap₂ (λ (i j : ℕ). field_bit (unless 0 x.frame) + 2 * field_bit (unless i j)) head top in (
+    let head = f.thirty_two_bits-first.ensures ∙ ap thirty_two_bits (to_z-of_z w32 (first_score ys) (record { sfits = a.thirty_two_bits-arg-1.given })) in
+    let top = t.thirty_two_bits-top.ensures ∙ ap thirty_two_bits (to_z-of_z w32 x.ceiling s.ranges.ceiling) in
+    let byte : b.fields_byte-fields.result ≡ field_bit (unless 0 x.frame) + 2 * field_bit (unless (thirty_two_bits (first_score ys)) (thirty_two_bits x.ceiling))
+    = b.fields_byte-fields.ensures.0 ∙ ap₂ (λ (i j : ℕ). field_bit (unless 0 x.frame) + 2 * field_bit (unless i j)) head top in (
       λ inputs.
           let r = result_of x.m x.rows x.frame x.ceiling ys inputs in
-          omega (arith, c.length-of.ensures.0, ap scores_at byte, scores_behind (frame_field r) (ceiling_field r), length_result r s.requires.3),
-      c.length-of.ensures.1,
+          omega (arith, c.length_of.ensures.0, ap scores_at byte, scores_behind (frame_field r) (ceiling_field r), length_result r s.requires.3),
+      c.length_of.ensures.1,
     )
 
 pub result_length_spec : {M : Type 1} → statement M

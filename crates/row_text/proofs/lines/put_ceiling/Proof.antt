@@ -11,13 +11,13 @@ use Rattle.row_text.proofs.lines.put_ceiling.Tie as tie
 slice_aggregate_put_bytes : tie.Need-slice-aggregate-put-bytes
 slice_aggregate_put_bytes c = omega arith
 
-put_bytes_requires : tie.Need-put-bytes-requires
+put_bytes_requires : tie.Need-put_bytes-next-requires
 put_bytes_requires c κs = omega arith
 
-put_signed_requires : tie.Need-put-signed-requires
+put_signed_requires : tie.Need-put_signed-requires
 put_signed_requires c κs = omega arith
 
-same_length : tie.Need-same-length
+same_length : tie.Need-shape_of-out
 same_length c = omega arith
 
 returns : tie.Need-returns
@@ -26,8 +26,8 @@ returns c =
     let word = number.before.before.before.before in
     let s = c.before.before.before.before.before.before.before.before.before.before in
     let same = ap signed_decimal (to_z-of_z w32 s.args.ceiling s.ranges.ceiling) in (
-      then word.put-bytes.ensures.0 (put_same number.put-signed.ensures.0 same),
-      omega (arith, word.put-bytes.ensures.1, number.put-signed.ensures.1),
+      then word.put_bytes-next.ensures.0 (put_same number.put_signed.ensures.0 same),
+      omega (arith, word.put_bytes-next.ensures.1, number.put_signed.ensures.1),
     )
 
 pub put_ceiling_spec : {M : Type 1} → statement M

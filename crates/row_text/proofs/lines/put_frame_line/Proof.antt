@@ -14,22 +14,22 @@ use Rattle.row_text.proofs.lines.put_frame_line.Tie as tie
 slice_aggregate_put_named : tie.Need-slice-aggregate-put-named
 slice_aggregate_put_named c = omega arith
 
-put_named_requires : tie.Need-put-named-requires
+put_named_requires : tie.Need-put_named-a-requires
 put_named_requires c κs = omega arith
 
 slice_aggregate_put_named_2 : tie.Need-slice-aggregate-put-named-2
 slice_aggregate_put_named_2 c = omega arith
 
-put_named_requires_2 : tie.Need-put-named-requires-2
+put_named_requires_2 : tie.Need-put_named-b-requires
 put_named_requires_2 c κs = omega arith
 
-put_ceiling_requires : tie.Need-put-ceiling-requires
+put_ceiling_requires : tie.Need-put_ceiling-c-requires
 put_ceiling_requires c κs = omega arith
 
-put_byte_requires : tie.Need-put-byte-requires
+put_byte_requires : tie.Need-put_byte-requires
 put_byte_requires c κs = omega arith
 
-same_length : tie.Need-same-length
+same_length : tie.Need-shape_of-out
 same_length c = omega arith
 
 returns : tie.Need-returns
@@ -41,8 +41,8 @@ returns c =
     let frame = rows.before.before.before.before.before in
     let s = frame.before.before.before.before in
     let same = ap (λ (z : ℤ). ceiling_word ++ signed_decimal z) (to_z-of_z w32 s.args.ceiling s.ranges.ceiling) in (
-      then (then (then frame.put-named.ensures.0 rows.put-named2.ensures.0) (put_same top.put-ceiling.ensures.0 same)) feed.put_byte.ensures.0,
-      omega (arith, frame.put-named.ensures.1, rows.put-named2.ensures.1, top.put-ceiling.ensures.1, feed.put_byte.ensures.1),
+      then (then (then frame.put_named-a.ensures.0 rows.put_named-b.ensures.0) (put_same top.put_ceiling-c.ensures.0 same)) feed.put_byte.ensures.0,
+      omega (arith, frame.put_named-a.ensures.1, rows.put_named-b.ensures.1, top.put_ceiling-c.ensures.1, feed.put_byte.ensures.1),
     )
 
 pub put_frame_line_spec : {M : Type 1} → statement M

@@ -8,16 +8,16 @@ use Rattle.place.specs.Put.{then, put_same}
 use Rattle.row_text.proofs.lines.put_rank_and_score.Statement.{statement}
 use Rattle.row_text.proofs.lines.put_rank_and_score.Tie as tie
 
-put_number_requires : tie.Need-put-number-requires
+put_number_requires : tie.Need-put_number-a-requires
 put_number_requires c κs = omega arith
 
-put_byte_requires : tie.Need-put-byte-requires
+put_byte_requires : tie.Need-put_byte-b-requires
 put_byte_requires c κs = omega arith
 
-put_signed_requires : tie.Need-put-signed-requires
+put_signed_requires : tie.Need-put_signed-requires
 put_signed_requires c κs = omega arith
 
-same_length : tie.Need-same-length
+same_length : tie.Need-shape_of-out
 same_length c = omega arith
 
 returns : tie.Need-returns
@@ -27,8 +27,8 @@ returns c =
     let rank = gap.before.before.before.before in
     let s = rank.before.before.before in
     let same = ap signed_decimal (to_z-of_z w32 s.args.score s.ranges.score) in (
-      then (then rank.put-number.ensures.0 gap.put_byte.ensures.0) (put_same score.put-signed.ensures.0 same),
-      omega (arith, rank.put-number.ensures.1, gap.put_byte.ensures.1, score.put-signed.ensures.1),
+      then (then rank.put_number-a.ensures.0 gap.put_byte-b.ensures.0) (put_same score.put_signed.ensures.0 same),
+      omega (arith, rank.put_number-a.ensures.1, gap.put_byte-b.ensures.1, score.put_signed.ensures.1),
     )
 
 pub put_rank_and_score_spec : {M : Type 1} → statement M

@@ -12,16 +12,16 @@ use Rattle.place.specs.Put.{then, put_same}
 use Rattle.row_text.proofs.lines.put_row.Statement.{statement}
 use Rattle.row_text.proofs.lines.put_row.Tie as tie
 
-put_rank_and_score_requires : tie.Need-put-rank-and-score-requires
+put_rank_and_score_requires : tie.Need-put_rank_and_score-a-requires
 put_rank_and_score_requires c κs = omega arith
 
-put_words_requires : tie.Need-put-words-requires
+put_words_requires : tie.Need-put_words-b-requires
 put_words_requires c κs = omega arith
 
-put_byte_requires : tie.Need-put-byte-requires
+put_byte_requires : tie.Need-put_byte-requires
 put_byte_requires c κs = omega arith
 
-same_length : tie.Need-same-length
+same_length : tie.Need-shape_of-out
 same_length c = omega arith
 
 returns : tie.Need-returns
@@ -32,8 +32,8 @@ returns c =
     let rank = words.before.before.before.before in
     let s = rank.before.before.before.before.before in
     let same = ap (λ (z : ℤ). decimal s.args.rank ++ space ++ signed_decimal z) (to_z-of_z w32 s.args.score s.ranges.score) in (
-      then (then (put_same rank.put-rank-and-score.ensures.0 same) words.put-words.ensures.0) feed.put_byte.ensures.0,
-      omega (arith, rank.put-rank-and-score.ensures.1, words.put-words.ensures.1, feed.put_byte.ensures.1),
+      then (then (put_same rank.put_rank_and_score-a.ensures.0 same) words.put_words-b.ensures.0) feed.put_byte.ensures.0,
+      omega (arith, rank.put_rank_and_score-a.ensures.1, words.put_words-b.ensures.1, feed.put_byte.ensures.1),
     )
 
 pub put_row_spec : {M : Type 1} → statement M

@@ -4,19 +4,19 @@ use Rattle.place.specs.Put.{then}
 use Rattle.row_text.proofs.lines.put_words.Statement.{statement}
 use Rattle.row_text.proofs.lines.put_words.Tie as tie
 
-put_byte_requires : tie.Need-put-byte-requires
+put_byte_requires : tie.Need-put_byte-a-requires
 put_byte_requires c κs = omega arith
 
-put_bits_requires : tie.Need-put-bits-requires
+put_bits_requires : tie.Need-put_bits-b-requires
 put_bits_requires c κs = omega arith
 
-put_byte_requires_2 : tie.Need-put-byte-requires-2
+put_byte_requires_2 : tie.Need-put_byte-c-requires
 put_byte_requires_2 c κs = omega arith
 
-put_bits_requires_2 : tie.Need-put-bits-requires-2
+put_bits_requires_2 : tie.Need-put_bits-requires
 put_bits_requires_2 c κs = omega arith
 
-same_length : tie.Need-same-length
+same_length : tie.Need-shape_of-out
 same_length c = omega arith
 
 returns : tie.Need-returns
@@ -25,8 +25,8 @@ returns c =
     let gap = word.before.before.before.before in
     let input = gap.before.before.before.before in
     let ahead = input.before.before.before.before in (
-      then (then (then ahead.put_byte.ensures.0 input.put-bits.ensures.0) gap.put-byte2.ensures.0) word.put-bits2.ensures.0,
-      omega (arith, ahead.put_byte.ensures.1, input.put-bits.ensures.1, gap.put-byte2.ensures.1, word.put-bits2.ensures.1),
+      then (then (then ahead.put_byte-a.ensures.0 input.put_bits-b.ensures.0) gap.put_byte-c.ensures.0) word.put_bits.ensures.0,
+      omega (arith, ahead.put_byte-a.ensures.1, input.put_bits-b.ensures.1, gap.put_byte-c.ensures.1, word.put_bits.ensures.1),
     )
 
 pub put_words_spec : {M : Type 1} → statement M

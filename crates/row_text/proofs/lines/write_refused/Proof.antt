@@ -8,13 +8,13 @@ use Rattle.row_text.proofs.lines.write_refused.Tie as tie
 slice_aggregate_put_named : tie.Need-slice-aggregate-put-named
 slice_aggregate_put_named c = omega arith
 
-put_named_requires : tie.Need-put-named-requires
+put_named_requires : tie.Need-put_named-next-requires
 put_named_requires c κs = omega arith
 
-put_byte_requires : tie.Need-put-byte-requires
+put_byte_requires : tie.Need-put_byte-requires
 put_byte_requires c κs = omega arith
 
-same_length : tie.Need-same-length
+same_length : tie.Need-shape_of-out
 same_length c = omega arith
 
 returns : tie.Need-returns
@@ -22,7 +22,7 @@ unfolding refused_text
 returns c =
     let feed = c.before.before in
     let name = feed.before.before.before.before in
-    whole (then name.put-named.ensures.0 feed.put_byte.ensures.0) (omega (arith, name.put-named.ensures.1, feed.put_byte.ensures.1))
+    whole (then name.put_named-next.ensures.0 feed.put_byte.ensures.0) (omega (arith, name.put_named-next.ensures.1, feed.put_byte.ensures.1))
 
 pub write_refused_spec : {M : Type 1} → statement M
 write_refused_spec =

@@ -8,13 +8,13 @@ use Rattle.place.specs.Put.{then, put_same, whole}
 use Rattle.row_text.proofs.listing.write_rows.Statement.{statement}
 use Rattle.row_text.proofs.listing.write_rows.Tie as tie
 
-put_frame_line_requires : tie.Need-put-frame-line-requires
+put_frame_line_requires : tie.Need-put_frame_line-next-requires
 put_frame_line_requires c κs = omega arith
 
-put_rows_requires : tie.Need-put-rows-requires
+put_rows_requires : tie.Need-put_rows-requires
 put_rows_requires c κs = omega arith
 
-same_length : tie.Need-same-length
+same_length : tie.Need-shape_of-out
 same_length c = omega arith
 
 returns : tie.Need-returns
@@ -26,8 +26,8 @@ returns c =
     let a = s.args in
     let same = ap (frame_line a.frame a.rows) (to_z-of_z w32 a.ceiling s.ranges.ceiling) in
     whole
-    (then (put_same frame.put-frame-line.ensures.0 same) {ys = row_lines a.n 0 a.rows a.inputs.now a.words.now a.scores.now} rows.put-rows.ensures.0)
-    (omega (arith, frame.put-frame-line.ensures.1, rows.put-rows.ensures.1))
+    (then (put_same frame.put_frame_line-next.ensures.0 same) {ys = row_lines a.n 0 a.rows a.inputs.now a.words.now a.scores.now} rows.put_rows.ensures.0)
+    (omega (arith, frame.put_frame_line-next.ensures.1, rows.put_rows.ensures.1))
 
 pub write_rows_spec : {M : Type 1} → statement M
 write_rows_spec =

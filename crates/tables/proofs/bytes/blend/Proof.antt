@@ -10,13 +10,13 @@ use Rattle.tables.proofs.Sums.{mix_same, wrote_apart, wrote_none, wrote_step}
 use Rattle.tables.proofs.bytes.blend.Statement.{statement}
 use Rattle.tables.proofs.bytes.blend.Tie as tie
 
-abbrev invariant-loop : tie.invariant-loop
-invariant-loop b₀ p q to w arikan i₀ b i = (i ≤ w) × Wrote (mix arikan b₀ p q) to i b₀ b
+abbrev invariant-loop-i : tie.invariant-loop-i
+invariant-loop-i b₀ p q to w arikan i₀ b i = (i ≤ w) × Wrote (mix arikan b₀ p q) to i b₀ b
 
-abbrev decreases-loop : tie.decreases-loop
-decreases-loop b₀ p q to w arikan i₀ b i = w - i
+abbrev decreases-loop-i : tie.decreases-loop-i
+decreases-loop-i b₀ p q to w arikan i₀ b i = w - i
 
-loop_holds : tie.Need-loop-init invariant-loop decreases-loop
+loop_holds : tie.Need-loop-i-init invariant-loop-i decreases-loop-i
 loop_holds c =
     let s = c.before in (
       omega arith,
@@ -24,43 +24,43 @@ loop_holds c =
           s.args.b.now,
     )
 
-add_b : tie.Need-overflow-add-b invariant-loop decreases-loop
+add_b : tie.Need-overflow_add-b invariant-loop-i decreases-loop-i
 add_b c = omega arith
 
-slice_read_b : tie.Need-slice-read-b invariant-loop decreases-loop
+slice_read_b : tie.Need-bounds-b-p invariant-loop-i decreases-loop-i
 slice_read_b c = omega arith
 
-add_carried : tie.Need-overflow-add-carried invariant-loop decreases-loop
+add_carried : tie.Need-overflow_add-q invariant-loop-i decreases-loop-i
 add_carried c = omega arith
 
-slice_read_carried : tie.Need-slice-read-carried invariant-loop decreases-loop
+slice_read_carried : tie.Need-bounds-b-q invariant-loop-i decreases-loop-i
 slice_read_carried c = omega arith
 
-carried_requires : tie.Need-carried-requires invariant-loop decreases-loop
+carried_requires : tie.Need-carried-requires invariant-loop-i decreases-loop-i
 carried_requires c κs = search rules
 
-add_b_2 : tie.Need-overflow-add-b-2 invariant-loop decreases-loop
+add_b_2 : tie.Need-overflow_add-b-in-loop-i invariant-loop-i decreases-loop-i
 add_b_2 c = omega (arith, c.carried.ensures.1)
 
-add_b_3 : tie.Need-overflow-add-b-3 invariant-loop decreases-loop
+add_b_3 : tie.Need-overflow_add-b-in-loop-i-2 invariant-loop-i decreases-loop-i
 add_b_3 c = omega arith
 
-slice_write_b : tie.Need-slice-write-b invariant-loop decreases-loop
+slice_write_b : tie.Need-bounds-b-to invariant-loop-i decreases-loop-i
 slice_write_b c = omega arith
 
-add_i : tie.Need-overflow-add-i invariant-loop decreases-loop
+add_i : tie.Need-overflow_add-i invariant-loop-i decreases-loop-i
 add_i c = omega arith
 
-loop_less : tie.Need-loop-smaller invariant-loop decreases-loop
+loop_less : tie.Need-loop-i-smaller invariant-loop-i decreases-loop-i
 loop_less c = omega arith
 
-loop_again : tie.Need-loop-preserved invariant-loop decreases-loop
+loop_again : tie.Need-loop-i-preserved invariant-loop-i decreases-loop-i
 loop_again c =
     let s = c.before.before.before.before.before.before in
-    let l = c.before.before.before.before.loop in
+    let l = c.before.before.before.before.loop-i in
     let B : List ℕ = s.args.b.now in
     let F : ℕ → ℕ = mix s.args.arikan B s.args.p s.args.q in
-    let k : l.i < s.args.w = c.before.before.before.loop-test.true in
+    let k : l.i < s.args.w = c.before.before.before.loop-i-test.true in
     let e = c.carried.ensures.0 in (
       omega arith,
       wrote_step F s.args.to l.i ((get_or l.b (s.args.p + l.i) 0 % 2 + c.carried.result) % 2) B l.b
@@ -72,20 +72,20 @@ loop_again c =
           (omega arith) l.invariant.1 l.i k)) l.invariant.1,
     )
 
-same_length : tie.Need-same-length invariant-loop decreases-loop
+same_length : tie.Need-shape_of-b invariant-loop-i decreases-loop-i
 same_length c = omega arith
 
-returns : tie.Need-returns invariant-loop decreases-loop
+returns : tie.Need-returns invariant-loop-i decreases-loop-i
 returns c =
-    let e : c.before.loop.i ≡ c.before.before.before.args.w = omega arith in
-    rw e at c.before.loop.invariant.1
+    let e : c.before.loop-i.i ≡ c.before.before.before.args.w = omega arith in
+    rw e at c.before.loop-i.invariant.1
 
 pub blend_spec : {M : Type 1} → statement M
 blend_spec =
     tie.close
     (tie.spec
-    invariant-loop
-    decreases-loop
+    invariant-loop-i
+    decreases-loop-i
     loop_holds
     add_b
     slice_read_b

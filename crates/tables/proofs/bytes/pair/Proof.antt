@@ -16,7 +16,7 @@ blend_requires c κs =
       half_apart s.args.e s.args.w s.args.to s.requires.6,
     )
 
-add_blend : tie.Need-overflow-add-blend
+add_blend : tie.Need-overflow_add-to
 add_blend c = search rules
 
 blend_requires_2 : tie.Need-blend-requires-2
@@ -31,16 +31,16 @@ blend_requires_2 c κs =
       rest_apart s.args.e s.args.w s.args.to s.requires.6,
     )
 
-same_length : tie.Need-same-length
+same_length : tie.Need-shape_of-b
 same_length c = search rules
 
 returns : tie.Need-returns
 returns c =
     let s = c.before.before.before.before.before.before.before.before.before in
-    pair_wrote s.args.arikan s.args.b.now c.before.before.before.before.before.before.blend.new.0
-    c.before.before.blend2.new.0 s.args.p s.args.q s.args.e s.args.to s.args.w
+    pair_wrote s.args.arikan s.args.b.now c.before.before.before.before.before.before.blend.new.b
+    c.before.before.blend-2.new.b s.args.p s.args.q s.args.e s.args.to s.args.w
     s.requires.5 s.requires.6 c.before.before.before.before.before.before.blend.ensures
-    c.before.before.blend2.ensures
+    c.before.before.blend-2.ensures
 
 pub pair_spec : {M : Type 1} → statement M
 pair_spec = tie.close (tie.spec blend_requires add_blend blend_requires_2 same_length returns)

@@ -9,44 +9,44 @@ use Rattle.tables.proofs.Sums.{wrote_none, wrote_step}
 use Rattle.tables.proofs.start.copy_down.Statement.{statement}
 use Rattle.tables.proofs.start.copy_down.Tie as tie
 
-abbrev invariant-loop : tie.invariant-loop
-invariant-loop t₀ src dst k i₀ t i = (i ≤ k) × Wrote (λ x. get_or t₀ (src + x) 0) dst i t₀ t
+abbrev invariant-loop-i : tie.invariant-loop-i
+invariant-loop-i t₀ src dst k i₀ t i = (i ≤ k) × Wrote (λ x. get_or t₀ (src + x) 0) dst i t₀ t
 
-abbrev decreases-loop : tie.decreases-loop
-decreases-loop t₀ src dst k i₀ t i = k - i
+abbrev decreases-loop-i : tie.decreases-loop-i
+decreases-loop-i t₀ src dst k i₀ t i = k - i
 
-loop_holds : tie.Need-loop-init invariant-loop decreases-loop
+loop_holds : tie.Need-loop-i-init invariant-loop-i decreases-loop-i
 loop_holds c =
     (omega arith, wrote_none (λ x. get_or c.args.t.now (c.args.src + x) 0) c.args.dst c.args.t.now)
 
-add_t : tie.Need-overflow-add-t invariant-loop decreases-loop
+add_t : tie.Need-overflow_add-t invariant-loop-i decreases-loop-i
 add_t c = omega arith
 
-mul_t : tie.Need-overflow-mul-t invariant-loop decreases-loop
+mul_t : tie.Need-offset_bounds-t-src invariant-loop-i decreases-loop-i
 mul_t c = search rules
 
-slice_read_t : tie.Need-slice-read-t invariant-loop decreases-loop
+slice_read_t : tie.Need-bounds-t-src invariant-loop-i decreases-loop-i
 slice_read_t c = omega arith
 
-add_t_2 : tie.Need-overflow-add-t-2 invariant-loop decreases-loop
+add_t_2 : tie.Need-overflow_add-t-in-loop-i invariant-loop-i decreases-loop-i
 add_t_2 c = omega arith
 
-mul_t_2 : tie.Need-overflow-mul-t-2 invariant-loop decreases-loop
+mul_t_2 : tie.Need-offset_bounds-t-dst invariant-loop-i decreases-loop-i
 mul_t_2 c = search rules
 
-slice_write_t : tie.Need-slice-write-t invariant-loop decreases-loop
+slice_write_t : tie.Need-bounds-t-dst invariant-loop-i decreases-loop-i
 slice_write_t c = omega arith
 
-add_i : tie.Need-overflow-add-i invariant-loop decreases-loop
+add_i : tie.Need-overflow_add-i invariant-loop-i decreases-loop-i
 add_i c = omega arith
 
-loop_less : tie.Need-loop-smaller invariant-loop decreases-loop
+loop_less : tie.Need-loop-i-smaller invariant-loop-i decreases-loop-i
 loop_less c = omega arith
 
-loop_again : tie.Need-loop-preserved invariant-loop decreases-loop
+loop_again : tie.Need-loop-i-preserved invariant-loop-i decreases-loop-i
 loop_again c =
     let s = c.before.before.before in
-    let l = c.before.before.loop in
+    let l = c.before.before.loop-i in
     let T : List ℕ = s.args.t.now in
     let F : ℕ → ℕ = λ x. get_or T (s.args.src + x) 0 in (
       omega arith,
@@ -54,20 +54,20 @@ loop_again c =
           (l.invariant.1.above (s.args.src + l.i) (omega arith)) l.invariant.1,
     )
 
-same_length : tie.Need-same-length invariant-loop decreases-loop
+same_length : tie.Need-shape_of-t invariant-loop-i decreases-loop-i
 same_length c = omega arith
 
-returns : tie.Need-returns invariant-loop decreases-loop
+returns : tie.Need-returns invariant-loop-i decreases-loop-i
 returns c =
-    let e : c.before.loop.i ≡ c.before.before.args.k = omega arith in
-    rw e at c.before.loop.invariant.1
+    let e : c.before.loop-i.i ≡ c.before.before.args.k = omega arith in
+    rw e at c.before.loop-i.invariant.1
 
 pub copy_down_spec : {M : Type 1} → statement M
 copy_down_spec =
     tie.close
     (tie.spec
-    invariant-loop
-    decreases-loop
+    invariant-loop-i
+    decreases-loop-i
     loop_holds
     add_t
     mul_t

@@ -11,20 +11,20 @@ use Rattle.tables.proofs.Starting.{start_more}
 use Rattle.tables.proofs.start.start.Statement.{statement}
 use Rattle.tables.proofs.start.start.Tie as tie
 
-abbrev invariant-loop : tie.invariant-loop
-invariant-loop t₀ soft deep q l h arikan d₀ w₀ t d w = Starting arikan deep l h d w (taken soft) t₀ t
+abbrev invariant-loop-d : tie.invariant-loop-d
+invariant-loop-d t₀ soft deep q l h arikan d₀ w₀ t d w = Starting arikan deep l h d w (taken soft) t₀ t
 
-abbrev decreases-loop : tie.decreases-loop
-decreases-loop t₀ soft deep q l h arikan d₀ w₀ t d w = d
+abbrev decreases-loop-d : tie.decreases-loop-d
+decreases-loop-d t₀ soft deep q l h arikan d₀ w₀ t d w = d
 
-lay_costs_requires : tie.Need-lay-costs-requires invariant-loop decreases-loop
+lay_costs_requires : tie.Need-lay_costs-requires invariant-loop-d decreases-loop-d
 lay_costs_requires c κs =
     let s = c.before.before in
     let f = bottom_fits s.args.arikan s.args.deep s.args.q s.args.l s.args.h s.args.soft.now
     s.args.t.now s.requires in
     (omega (arith, s.requires.bottom, s.requires.costs), f.1, s.requires.range)
 
-place_requires : tie.Need-place-requires invariant-loop decreases-loop
+place_requires : tie.Need-place-requires invariant-loop-d decreases-loop-d
 place_requires c κs =
     let s = c.before.before.before.before.before.before in
     let f : s.args.q ≤ 256
@@ -32,101 +32,101 @@ place_requires c κs =
     s.requires).2 in
     (omega arith, s.requires.long, omega arith)
 
-mul_copy_down : tie.Need-overflow-mul-copy-down invariant-loop decreases-loop
+mul_copy_down : tie.Need-overflow_mul-h invariant-loop-d decreases-loop-d
 mul_copy_down c = omega (arith, c.before.before.before.before.before.before.requires.near)
 
-mul_copy_down_2 : tie.Need-overflow-mul-copy-down-2 invariant-loop decreases-loop
+mul_copy_down_2 : tie.Need-overflow_mul-place invariant-loop-d decreases-loop-d
 mul_copy_down_2 c = search rules
 
-mul_copy_down_3 : tie.Need-overflow-mul-copy-down-3 invariant-loop decreases-loop
+mul_copy_down_3 : tie.Need-overflow_mul-q invariant-loop-d decreases-loop-d
 mul_copy_down_3 c = search rules
 
-copy_down_requires : tie.Need-copy-down-requires invariant-loop decreases-loop
+copy_down_requires : tie.Need-copy_down-requires invariant-loop-d decreases-loop-d
 copy_down_requires c κs =
     let k = c.before.before.before.before in
     let s = k.before.before.before in
     let f = bottom_fits s.args.arikan s.args.deep s.args.q s.args.l s.args.h s.args.soft.now
     s.args.t.now s.requires in
-    (omega (arith, s.requires.bottom, s.requires.costs, k.lay-costs.ensures.same), omega (arith, f.0, c.place.ensures.is))
+    (omega (arith, s.requires.bottom, s.requires.costs, k.lay_costs.ensures.same), omega (arith, f.0, c.place.ensures.is))
 
 -- the bottom's windows are its costs
-windows_laid : (c : tie.After-copy-down invariant-loop decreases-loop) → let k = c.before.before.before.before.before in
+windows_laid : (c : tie.After-copy_down invariant-loop-d decreases-loop-d) → let k = c.before.before.before.before.before in
     let a = k.before.before.before.args in
-    WroteRows (λ i. F a.arikan (four_at (taken a.soft.now) a.q i)) (16 * slot_start a.q a.l 0) 16 a.q k.lay-costs.new.0
-    c.copy-down.new.0
+    WroteRows (λ i. F a.arikan (four_at (taken a.soft.now) a.q i)) (16 * slot_start a.q a.l 0) 16 a.q k.lay_costs.new.t
+    c.copy_down.new.t
 windows_laid c =
     let p = c.before in
     let k = p.before.before.before.before in
     let a = k.before.before.before.args in
     rows_copied (λ i. F a.arikan (four_at (taken a.soft.now) a.q i)) (16 * a.h) (16 * slot_start a.q a.l 0) a.q a.t.now
-    k.lay-costs.new.0 c.copy-down.new.0 k.lay-costs.ensures (rw p.place.ensures.is at c.copy-down.ensures)
+    k.lay_costs.new.t c.copy_down.new.t k.lay_costs.ensures (rw p.place.ensures.is at c.copy_down.ensures)
 
-loop_holds : tie.Need-loop-init invariant-loop decreases-loop
+loop_holds : tie.Need-loop-d-init invariant-loop-d decreases-loop-d
 loop_holds c =
     let m = c.before.before in
     let p = m.before in
     let k = p.before.before.before.before in
     let s = k.before.before.before in
     start_again s.args.arikan s.args.deep s.args.q s.args.l s.args.h s.args.soft.now s.args.t.now
-    s.requires s.args.q m.copy-down.new.0
+    s.requires s.args.q m.copy_down.new.t
     (start_bottom s.args.arikan s.args.deep s.args.q s.args.l s.args.h s.args.soft.now s.args.t.now
-    s.requires k.lay-costs.new.0 m.copy-down.new.0 k.lay-costs.ensures
+    s.requires k.lay_costs.new.t m.copy_down.new.t k.lay_costs.ensures
     (windows_laid m))
 
-sub_d : tie.Need-overflow-sub-d invariant-loop decreases-loop
+sub_d : tie.Need-overflow_sub-d invariant-loop-d decreases-loop-d
 sub_d c = search rules
 
-first_layer_requires : tie.Need-first-layer-requires invariant-loop decreases-loop
+first_layer_requires : tie.Need-first_layer-requires invariant-loop-d decreases-loop-d
 first_layer_requires c κs =
     let v = c.before.before in
     let m = v.before.before.before in
     let k = m.before.before.before.before.before in
     let s = k.before.before.before in
-    let l = v.loop in
+    let l = v.loop-d in
     start_fits s.args.arikan s.args.deep s.args.q s.args.l s.args.h s.args.soft.now s.args.t.now
-    s.requires l.d l.w l.t m.copy-down.new.0
-    (l.invariant.rest.same ∙ m.copy-down.ensures.same ∙ k.lay-costs.ensures.same) c.before.loop-test.true
+    s.requires l.d l.w l.t m.copy_down.new.t
+    (l.invariant.rest.same ∙ m.copy_down.ensures.same ∙ k.lay_costs.ensures.same) c.before.loop-d-test.true
     l.invariant
 
-loop_less : tie.Need-loop-smaller invariant-loop decreases-loop
+loop_less : tie.Need-loop-d-smaller invariant-loop-d decreases-loop-d
 loop_less c = search rules
 
-loop_again : tie.Need-loop-preserved invariant-loop decreases-loop
+loop_again : tie.Need-loop-d-preserved invariant-loop-d decreases-loop-d
 loop_again c =
     let f = c.before.before in
     let g = f.before.before in
     let v = g.before in
     let m = v.before.before.before in
     let s = m.before.before.before.before.before.before.before.before in
-    let l = v.loop in
+    let l = v.loop-d in
     start_more s.args.arikan s.args.deep s.args.q s.args.l s.args.h s.args.soft.now s.args.t.now
-    s.requires l.d l.w m.copy-down.new.0 l.t f.first-layer.new.0
-    g.loop-test.true l.invariant f.first-layer.ensures
+    s.requires l.d l.w m.copy_down.new.t l.t f.first_layer.new.t
+    g.loop-d-test.true l.invariant f.first_layer.ensures
 
-same_length : tie.Need-same-length invariant-loop decreases-loop
+same_length : tie.Need-shape_of-t invariant-loop-d decreases-loop-d
 same_length c = search rules
 
-returns : tie.Need-returns invariant-loop decreases-loop
+returns : tie.Need-returns invariant-loop-d decreases-loop-d
 returns c =
     let v = c.before in
     let m = v.before.before.before in
     let p = m.before in
     let k = p.before.before.before.before in
     let s = k.before.before.before in
-    let l = v.loop in
+    let l = v.loop-d in
     let e : l.d ≡ 0 = omega arith in
     start_done s.args.arikan s.args.deep s.args.q s.args.l s.args.h s.args.soft.now s.args.t.now
-    s.requires s.args.q l.w m.copy-down.new.0 l.t
+    s.requires s.args.q l.w m.copy_down.new.t l.t
     (start_bottom s.args.arikan s.args.deep s.args.q s.args.l s.args.h s.args.soft.now s.args.t.now
-    s.requires k.lay-costs.new.0 m.copy-down.new.0 k.lay-costs.ensures
+    s.requires k.lay_costs.new.t m.copy_down.new.t k.lay_costs.ensures
     (windows_laid m)) (rw e at l.invariant)
 
 pub start_spec : {M : Type 1} → statement M
 start_spec =
     tie.close
     (tie.spec
-    invariant-loop
-    decreases-loop
+    invariant-loop-d
+    decreases-loop-d
     lay_costs_requires
     mul_copy_down
     place_requires

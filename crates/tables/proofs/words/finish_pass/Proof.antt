@@ -12,67 +12,67 @@ use Rattle.tables.proofs.Rows.{rows_more, rows_none}
 use Rattle.tables.proofs.words.finish_pass.Statement.{statement}
 use Rattle.tables.proofs.words.finish_pass.Tie as tie
 
-abbrev invariant-loop : tie.invariant-loop
-invariant-loop t₀ dst w left arikan i₀ t i = (i ≤ w) × WroteRows (finish_f arikan left dst t₀) (16 * dst) 16 i t₀ t
+abbrev invariant-loop-i : tie.invariant-loop-i
+invariant-loop-i t₀ dst w left arikan i₀ t i = (i ≤ w) × WroteRows (finish_f arikan left dst t₀) (16 * dst) 16 i t₀ t
 
-abbrev decreases-loop : tie.decreases-loop
-decreases-loop t₀ dst w left arikan i₀ t i = w - i
+abbrev decreases-loop-i : tie.decreases-loop-i
+decreases-loop-i t₀ dst w left arikan i₀ t i = w - i
 
-returns : tie.Need-returns invariant-loop decreases-loop
+returns : tie.Need-returns-then-left-gt3 invariant-loop-i decreases-loop-i
 returns c =
     let s = c.before.before.before in
-    let h : s.args.arikan ≡ false = not-true s.args.arikan c.before.if1.true in
+    let h : s.args.arikan ≡ false = not-true s.args.arikan c.before.if-not-arikan.true in
     let p : 3 < s.args.left = search rules in
     rw h (finished_already s.args.left s.args.dst s.args.w s.args.t.now p)
 
-loop_holds : tie.Need-loop-init invariant-loop decreases-loop
+loop_holds : tie.Need-loop-i-init invariant-loop-i decreases-loop-i
 loop_holds c =
     let s = c.before.before in (
       omega arith,
       rows_none (finish_f s.args.arikan s.args.left s.args.dst s.args.t.now) (16 * s.args.dst) 16 s.args.t.now,
     )
 
-add_finish : tie.Need-overflow-add-finish invariant-loop decreases-loop
+add_finish : tie.Need-overflow_add-dst invariant-loop-i decreases-loop-i
 add_finish c = omega arith
 
-mul_finish : tie.Need-overflow-mul-finish invariant-loop decreases-loop
+mul_finish : tie.Need-overflow_mul-dst invariant-loop-i decreases-loop-i
 mul_finish c = omega arith
 
-finish_requires : tie.Need-finish-requires invariant-loop decreases-loop
+finish_requires : tie.Need-finish-requires invariant-loop-i decreases-loop-i
 finish_requires c κs = omega arith
 
-add_i : tie.Need-overflow-add-i invariant-loop decreases-loop
+add_i : tie.Need-overflow_add-i invariant-loop-i decreases-loop-i
 add_i c = omega arith
 
-loop_less : tie.Need-loop-smaller invariant-loop decreases-loop
+loop_less : tie.Need-loop-i-smaller invariant-loop-i decreases-loop-i
 loop_less c = omega arith
 
-loop_again : tie.Need-loop-preserved invariant-loop decreases-loop
+loop_again : tie.Need-loop-i-preserved invariant-loop-i decreases-loop-i
 loop_again c =
     let f = c.before.before in
-    let l = f.before.before.before.loop in
+    let l = f.before.before.before.loop-i in
     let s = f.before.before.before.before.before.before in
     let F : List ℕ → ℕ → ℕ → ℕ = finish_f s.args.arikan s.args.left s.args.dst in (
       omega arith,
       rows_more (F s.args.t.now) (16 * s.args.dst) 16 s.args.t.now (F l.t l.i) l.i
-          (16 * (s.args.dst + l.i)) l.t f.finish.new.0 (omega arith) l.invariant.1 f.finish.ensures
+          (16 * (s.args.dst + l.i)) l.t f.finish.new.t (omega arith) l.invariant.1 f.finish.ensures
           (λ x _. l.invariant.1.above (16 * (s.args.dst + l.i) + source s.args.arikan s.args.left x) (omega arith)),
     )
 
-same_length : tie.Need-same-length invariant-loop decreases-loop
+same_length : tie.Need-shape_of-t invariant-loop-i decreases-loop-i
 same_length c = omega arith
 
-returns_2 : tie.Need-returns-2 invariant-loop decreases-loop
+returns_2 : tie.Need-returns invariant-loop-i decreases-loop-i
 returns_2 c =
-    let e : c.before.loop.i ≡ c.before.before.before.before.args.w = omega arith in
-    rw e at c.before.loop.invariant.1
+    let e : c.before.loop-i.i ≡ c.before.before.before.before.args.w = omega arith in
+    rw e at c.before.loop-i.invariant.1
 
 pub finish_pass_spec : {M : Type 1} → statement M
 finish_pass_spec =
     tie.close
     (tie.spec
-    invariant-loop
-    decreases-loop
+    invariant-loop-i
+    decreases-loop-i
     returns
     loop_holds
     add_finish
