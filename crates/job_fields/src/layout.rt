@@ -6,7 +6,7 @@ ghost use Rattle.spec.specs.Record.{stop_at, frame_at, map_at};
 
 // The map of fields, m, n, the number of pairs, and where the frozen map, the pairs and the soft values begin. The pairs end where the soft
 // values begin.
-#[derive(Drop)]
+#[derive(Clone, Copy)]
 pub struct Layout {
     pub fields: u32,
     pub m: u32,

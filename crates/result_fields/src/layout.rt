@@ -7,7 +7,7 @@ use code::size;
 use slices::times;
 
 // The map of fields, m, the row count, n, and where the scores and the packed rows begin.
-#[derive(Drop)]
+#[derive(Clone, Copy)]
 pub struct Layout {
     pub fields: u32,
     pub m: u32,

@@ -78,7 +78,7 @@ trace_rank (begun p) = p
 trace_rank (back p b e t) = p
 
 -- it reads nothing at or past position i
-pub trace_kept : {l i r : ℕ} {g : List ℕ} {w : List ℕ} (g' : List ℕ) → ((j : ℕ) → j < l * i → get_or g' j 0 ≡ get_or g j 0) → Trace l g i r w → Trace l g' i r w
+pub trace_kept : {l : ℕ} {g : List ℕ} {i r : ℕ} {w : List ℕ} (g' : List ℕ) → ((j : ℕ) → j < l * i → get_or g' j 0 ≡ get_or g j 0) → Trace l g i r w → Trace l g' i r w
 trace_kept g' h (begun p) = begun p
 trace_kept {l} g' h (back {i} {r} p b e t) =
     back p b (h (l * i + r) (omega (arith, step l i)) ∙ e) (trace_kept g' (λ j k. h j (omega (arith, step l i))) t)
@@ -87,7 +87,7 @@ trace_kept {l} g' h (back {i} {r} p b e t) =
     step l i = omega arith
 
 -- where the history leads back to a prefix, this is read back: ranks of a list have five bits
-pub trace_back : {l i r : ℕ} {g w : List ℕ} → l ≤ 32 → Trace l g i r w → traced_back l g i r ≡ w
+pub trace_back : {l : ℕ} {g : List ℕ} {i r : ℕ} {w : List ℕ} → l ≤ 32 → Trace l g i r w → traced_back l g i r ≡ w
 trace_back hl (begun p) = refl
 trace_back {l} {g = g} hl (back {i} {r} {q} {b} {w} p hb e t) =
     let x : ℕ = get_or g (l * i + r) 0 in

@@ -23,45 +23,45 @@ read_more code costs r v h e c = record {
       (eq-or-lt_of_le {n = k} {m = r} (omega arith));
 }
 
-abbrev invariant-loop : tie.invariant-loop
-invariant-loop code count costs₀ r₀ costs r = (r ≤ count) × CostsRead r code costs
+abbrev invariant-loop-r : tie.invariant-loop-r
+invariant-loop-r code count costs₀ r₀ costs r = (r ≤ count) × CostsRead r code costs
 
-abbrev decreases-loop : tie.decreases-loop
-decreases-loop code count costs₀ r₀ costs r = count - r
+abbrev decreases-loop-r : tie.decreases-loop-r
+decreases-loop-r code count costs₀ r₀ costs r = count - r
 
-loop_holds : tie.Need-loop-init invariant-loop decreases-loop
+loop_holds : tie.Need-loop-r-init invariant-loop-r decreases-loop-r
 loop_holds c = (omega arith, record { long = c.requires.2; are = λ r h. absurd (omega arith) })
 
-mul_entry_cost : tie.Need-overflow-mul-entry-cost invariant-loop decreases-loop
+mul_entry_cost : tie.Need-offset_bounds-code-r invariant-loop-r decreases-loop-r
 mul_entry_cost c = search rules
 
-element_copy_out_entry_cost : tie.Need-element-copy-out-entry-cost invariant-loop decreases-loop
+element_copy_out_entry_cost : tie.Need-bounds-code-r invariant-loop-r decreases-loop-r
 element_copy_out_entry_cost c = search rules
 
-entry_cost_requires : tie.Need-entry-cost-requires invariant-loop decreases-loop
+entry_cost_requires : tie.Need-entry_cost-requires invariant-loop-r decreases-loop-r
 entry_cost_requires c κs = search rules
 
-mul_costs : tie.Need-overflow-mul-costs invariant-loop decreases-loop
+mul_costs : tie.Need-offset_bounds-costs-r invariant-loop-r decreases-loop-r
 mul_costs c = search rules
 
-element_write_costs : tie.Need-element-write-costs invariant-loop decreases-loop
+element_write_costs : tie.Need-bounds-costs-r invariant-loop-r decreases-loop-r
 element_write_costs c = search rules
 
-add_r : tie.Need-overflow-add-r invariant-loop decreases-loop
+add_r : tie.Need-overflow_add-r invariant-loop-r decreases-loop-r
 add_r c = search rules
 
-loop_less : tie.Need-loop-smaller invariant-loop decreases-loop
+loop_less : tie.Need-loop-r-smaller invariant-loop-r decreases-loop-r
 loop_less c = search rules
 
-loop_again : tie.Need-loop-preserved invariant-loop decreases-loop
+loop_again : tie.Need-loop-r-preserved invariant-loop-r decreases-loop-r
 loop_again c =
     let s = c.before.before.before.before in
-    let l = c.before.before.before.loop in
-    (omega arith, read_more s.args.code.now l.costs l.r _ (omega (arith, s.requires.0)) c.entry-cost.ensures l.invariant.1)
+    let l = c.before.before.before.loop-r in
+    (omega arith, read_more s.args.code.now l.costs l.r _ (omega (arith, s.requires.0)) c.entry_cost.ensures l.invariant.1)
 
-returns : tie.Need-returns invariant-loop decreases-loop
+returns : tie.Need-returns invariant-loop-r decreases-loop-r
 returns c =
-    let l = c.before.loop in
+    let l = c.before.loop-r in
     let e : l.r ≡ c.before.before.args.count = omega arith in
     rw e at l.invariant.1
 
@@ -69,8 +69,8 @@ pub read_costs_spec : {M : Type 1} → statement M
 read_costs_spec =
     tie.close
     (tie.spec
-    invariant-loop
-    decreases-loop
+    invariant-loop-r
+    decreases-loop-r
     loop_holds
     mul_entry_cost
     element_copy_out_entry_cost

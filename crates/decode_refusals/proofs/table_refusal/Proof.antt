@@ -4,6 +4,7 @@ use mathlib.Core.Bool.{Bool, true, false, ◌||◌, true≢false}
 use mathlib.Core.List.{List, [], ◌∷◌}
 use Prim.Native.Nat.{ℕ, ◌*◌}
 use borrow.Author.Rules.{rules}
+use borrow.Author.Tests.{lt-ltb, le-ltb}
 use lib.Dec.{ltb}
 use Rattle.spec.specs.Faults.{Fault, fault}
 use Rattle.spec.specs.Refusals.{table_faults, room, number_room, byte_room}
@@ -63,25 +64,25 @@ outputs_short_requires c κs = search rules
 returns : tie.Need-returns-then-few_numbers
 returns c =
     let o = c.before in
-    is_first (table (s o)) 8 (here (sym (numbers_test o) ∙ c.if-few_numbers.true))
+    is_first (table (s o)) 8 (here (sym (numbers_test o) ∙ lt-ltb _ _ c.if-few_numbers.true))
 
 returns_2 : tie.Need-returns-then-few_bytes
 returns_2 c =
     let o = c.before.before in
-    is_first (table (s o)) 9 (later (sym (numbers_test o) ∙ c.before.if-few_numbers.false) (here (sym (bytes_test o) ∙ c.if-few_bytes.true)))
+    is_first (table (s o)) 9 (later (sym (numbers_test o) ∙ le-ltb _ _ c.before.if-few_numbers.false) (here (sym (bytes_test o) ∙ lt-ltb _ _ c.if-few_bytes.true)))
 
 returns_3 : tie.Need-returns-then-few_places
 returns_3 c =
     let o = c.before.before.before in
     is_first (table (s o)) 10
-    (later (sym (numbers_test o) ∙ c.before.before.if-few_numbers.false) (later (sym (bytes_test o) ∙ c.before.if-few_bytes.false)
+    (later (sym (numbers_test o) ∙ le-ltb _ _ c.before.before.if-few_numbers.false) (later (sym (bytes_test o) ∙ le-ltb _ _ c.before.if-few_bytes.false)
     (some_short _ _ _ (sym (places_test o) ∙ c.if-few_places.true))))
 
 returns_4 : tie.Need-returns
 returns_4 c =
     let o = c.before.before.before in
     is_first (table (s o)) 0
-    (later (sym (numbers_test o) ∙ c.before.before.if-few_numbers.false) (later (sym (bytes_test o) ∙ c.before.if-few_bytes.false)
+    (later (sym (numbers_test o) ∙ le-ltb _ _ c.before.before.if-few_numbers.false) (later (sym (bytes_test o) ∙ le-ltb _ _ c.before.if-few_bytes.false)
     (none_short _ _ _ (sym (places_test o) ∙ c.if-few_places.false))))
 
 pub table_refusal_spec : {M : Type 1} → statement M

@@ -95,7 +95,7 @@ returns_3 c =
     let out = s.args.word.now in
     ap (written 0)
     (c.before.before.fill_bytes.ensures
-    ∙ filled_behind 0 w.write_word.new.1.1.1.1.1.0 out n (w.write_word.auto.1.1.1.1.1.0 ∙ length-take-le n out l.if-word-n.false) l.if-word-n.false
+    ∙ filled_behind 0 w.write_word.new.word out n (w.write_word.auto.word ∙ length-take-le n out l.if-word-n.false) l.if-word-n.false
     ∙ ap (padded 0 (length out)) w.write_word.ensures)
     ∙ encode_served (given s) s.args.payload.now out
     (passed e 0 (is_first (rest s) 0 (later (le-ltb (length out) (2 ^ s.args.m) (omega (arith, l.if-word-n.false))) none)))

@@ -33,7 +33,7 @@ fill_input_requires c κs =
     )
 
 -- the word once it is filled
-input_is : (c : tie.After-fill_input) → c.fill_input.new.1.1.1.0 ≡ input_for (given (start c)) (start c).args.payload.now
+input_is : (c : tie.After-fill_input) → c.fill_input.new.input ≡ input_for (given (start c)) (start c).args.payload.now
 input_is c = c.fill_input.ensures (start c).args.m (start c).args.arikan (start c).requires.0
 
 transform_word_requires : tie.Need-transform_word-requires
@@ -43,7 +43,7 @@ transform_word_requires c κs =
     record {
       least = s.requires.1.accepts.low;
       most = s.requires.1.accepts.high;
-      long = a.fill_input.auto.1.1.1.0 ∙ s.requires.0;
+      long = a.fill_input.auto.input ∙ s.requires.0;
       bits = rw (input_is a) (bits_input (given s) s.requires.1.bits);
     }
 

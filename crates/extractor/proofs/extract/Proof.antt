@@ -82,10 +82,10 @@ abbrev small : (c : tie.After-write_input) → n c ≤ 1024
 small c = c.before.before.size-n.ensures.1
 
 abbrev input : tie.After-write_input → List ℕ
-input c = c.write_input.new.1.1.1.0
+input c = c.write_input.new.input
 
 kept : (c : tie.After-write_input) → length (input c) ≡ length (take (n c) zeros)
-kept c = c.write_input.auto.1.1.1.0
+kept c = c.write_input.auto.input
 
 array_share_prefix_input : tie.Need-slice_bounds-input-end-2
 array_share_prefix_input c = let w = c.before in part_inside 0 (n w) (small w) (input w) (kept w)

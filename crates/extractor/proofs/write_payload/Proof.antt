@@ -6,7 +6,7 @@ use mathlib.Core.List.{List}
 use Prim.Native.Nat.{ℕ, ◌*◌, ◌^◌, ◌≤◌}
 use native.Mathlib.Omega.{arith}
 use borrow.Author.Rules.{rules}
-use borrow.Author.Tests.{ltb-false}
+use borrow.Author.Tests.{lt-ltb, le-ltb}
 use lib.Dec.{ltb}
 use lib.ListN.{length, take}
 use lib.Seq.{length-take-le}
@@ -81,11 +81,11 @@ returns_2 c arikan =
     let k = c.before.before in
     let s = start k in
     payload_refused (given s arikan) s.args.input.now s.args.payload.now 10
-    (is_first (table s arikan) 10 (later (outside_test k arikan ∙ c.before.if-outside.false) (here (short_test k arikan ∙ c.if-short.true)))) (λ z. omega arith)
+    (is_first (table s arikan) 10 (later (outside_test k arikan ∙ c.before.if-outside.false) (here (short_test k arikan ∙ lt-ltb (length s.args.payload.now) k.payload_size-k.result c.if-short.true)))) (λ z. omega arith)
 
 -- the output has room
 fits : (c : tie.Else-short) → c.before.before.payload_size-k.result ≤ length (start c.before.before).args.payload.now
-fits c = ltb-false (length (start c.before.before).args.payload.now) c.before.before.payload_size-k.result c.if-short.false
+fits c = c.if-short.false
 
 slice_relend_prefix_gather_payload : tie.Need-slice_bounds-gather_payload-end
 slice_relend_prefix_gather_payload c = omega (arith, fits c)
@@ -119,10 +119,10 @@ returns_3 c arikan =
     let out = s.args.payload.now in
     ap (written 0)
     (c.before.before.fill_bytes.ensures
-    ∙ filled_behind 0 w.gather_payload.new.1.1.0 out k (w.gather_payload.auto.1.1.0 ∙ part l) (fits l)
+    ∙ filled_behind 0 w.gather_payload.new.payload out k (w.gather_payload.auto.payload ∙ part l) (fits l)
     ∙ ap (padded 0 (length out)) (w.gather_payload.ensures ∙ ap (λ (fs : List ℕ). gathered fs s.args.input.now) (flags s arikan)))
     ∙ payload_served (given s arikan) s.args.input.now out
-    (is_first (table s arikan) 0 (later (outside_test p arikan ∙ l.before.if-outside.false) (later (short_test p arikan ∙ l.if-short.false) none)))
+    (is_first (table s arikan) 0 (later (outside_test p arikan ∙ l.before.if-outside.false) (later (short_test p arikan ∙ le-ltb (length out) k (fits l)) none)))
 
 pub write_payload_spec : {M : Type 1} → statement M
 write_payload_spec =

@@ -26,47 +26,47 @@ none_of a b d e =
     let q = not_either b d r.1 in
     later r.0 (later q.0 (later q.1 none))
 
-abbrev start : tie.After-too-short → tie.Start
+abbrev start : tie.After-too_short-short → tie.Start
 start c = c.before.before.before
 
-abbrev given : tie.After-too-short → List ℕ
+abbrev given : tie.After-too_short-short → List ℕ
 given c = (start c).args.bytes.now
 
-abbrev table : tie.After-too-short → List Fault
+abbrev table : tie.After-too_short-short → List Fault
 table c = let a = (start c).args in lent_faults (given c) a.maps a.softs a.pairs
 
 -- what was tested
-outside_is : (c : tie.After-too-short) → c.before.some-out-of-range.result ≡ some out_of_range (record_soft (given c))
+outside_is : (c : tie.After-too_short-short) → c.before.some_out_of_range-outside.result ≡ some out_of_range (record_soft (given c))
 outside_is c =
     let w = (start c).requires in
-    c.before.some-out-of-range.ensures ∙ ap (some out_of_range) (ap₂ (soft_from (given c)) w.soft_begins w.n_is)
+    c.before.some_out_of_range-outside.ensures ∙ ap (some out_of_range) (ap₂ (soft_from (given c)) w.soft_begins w.n_is)
 
-short_is : (c : tie.After-too-short) → let a = (start c).args in let n = positions (given c) in
-    c.too_short.result ≡ (ltb a.maps (map_bytes n) || (ltb a.softs n || ltb a.pairs (4 * pair_count (given c))))
+short_is : (c : tie.After-too_short-short) → let a = (start c).args in let n = positions (given c) in
+    c.too_short-short.result ≡ (ltb a.maps (map_bytes n) || (ltb a.softs n || ltb a.pairs (4 * pair_count (given c))))
 short_is c =
     let a = (start c).args in
     let w = (start c).requires in
-    c.too_short.ensures
+    c.too_short-short.ensures
     ∙ ap₂ (λ (n k : ℕ). ltb a.maps (map_bytes n) || (ltb a.softs n || ltb a.pairs (4 * k))) w.n_is w.count_is
 
-some_out_of_range_requires : tie.Need-some-out-of-range-requires
+some_out_of_range_requires : tie.Need-some_out_of_range-outside-requires
 some_out_of_range_requires c κs = search rules
 
-too_short_requires : tie.Need-too-short-requires
+too_short_requires : tie.Need-too_short-short-requires
 too_short_requires c κs = search rules
 
-returns : tie.Need-returns
-returns c = is_first (table c.before) 7 (here (sym (outside_is c.before) ∙ c.if1.true))
+returns : tie.Need-returns-then-outside
+returns c = is_first (table c.before) 7 (here (sym (outside_is c.before) ∙ c.if-outside.true))
 
-returns_2 : tie.Need-returns-2
+returns_2 : tie.Need-returns-then-short
 returns_2 c =
     let t = c.before.before in
-    is_first (table t) 10 (later (sym (outside_is t) ∙ c.before.if1.false) (one_of _ _ _ (sym (short_is t) ∙ c.if2.true)))
+    is_first (table t) 10 (later (sym (outside_is t) ∙ c.before.if-outside.false) (one_of _ _ _ (sym (short_is t) ∙ c.if-short.true)))
 
-returns_3 : tie.Need-returns-3
+returns_3 : tie.Need-returns
 returns_3 c =
     let t = c.before.before in
-    is_first (table t) 0 (later (sym (outside_is t) ∙ c.before.if1.false) (none_of _ _ _ (sym (short_is t) ∙ c.if2.false)))
+    is_first (table t) 0 (later (sym (outside_is t) ∙ c.before.if-outside.false) (none_of _ _ _ (sym (short_is t) ∙ c.if-short.false)))
 
 pub lent_refusal_spec : {M : Type 1} → statement M
 lent_refusal_spec =

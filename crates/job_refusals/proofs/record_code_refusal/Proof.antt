@@ -24,31 +24,31 @@ same_code : (arikan : Bool) {m m' : ℕ} {map map' pairs pairs' : List ℕ} → 
     → first (code_faults (code m arikan map pairs)) ≡ first (code_faults (code m' arikan map' pairs'))
 same_code arikan a b d = rw (a, b, d)
 
-add_map_end : tie.Need-overflow-add-map-end
+add_map_end : tie.Need-overflow_add-map_end
 add_map_end c = search rules
 
-add_map_end_2 : tie.Need-overflow-add-map-end-2
+add_map_end_2 : tie.Need-overflow_add-map_end-2
 add_map_end_2 c = search rules
 
-sub_code_refusal : tie.Need-overflow-sub-code-refusal
+sub_code_refusal : tie.Need-slice_bounds-code_refusal-count
 sub_code_refusal c = search rules
 
-part_code_refusal_start : tie.Need-slice-bounds-code-refusal-start
+part_code_refusal_start : tie.Need-slice_bounds-code_refusal-start
 part_code_refusal_start c = search rules
 
-part_code_refusal_end : tie.Need-slice-bounds-code-refusal-end
+part_code_refusal_end : tie.Need-slice_bounds-code_refusal-end
 part_code_refusal_end c = map_within c.before.before.requires
 
-sub_code_refusal_2 : tie.Need-overflow-sub-code-refusal-2
+sub_code_refusal_2 : tie.Need-slice_bounds-code_refusal-count-2
 sub_code_refusal_2 c = search rules
 
-part_code_refusal_start_2 : tie.Need-slice-bounds-code-refusal-start-2
+part_code_refusal_start_2 : tie.Need-slice_bounds-code_refusal-start-2
 part_code_refusal_start_2 c = pairs_first c.before.before.before.requires
 
-part_code_refusal_end_2 : tie.Need-slice-bounds-code-refusal-end-2
+part_code_refusal_end_2 : tie.Need-slice_bounds-code_refusal-end-2
 part_code_refusal_end_2 c = pairs_within c.before.before.before.requires
 
-code_refusal_requires : tie.Need-code-refusal-requires
+code_refusal_requires : tie.Need-code_refusal-requires
 code_refusal_requires c κs = search rules
 
 returns : tie.Need-returns
@@ -56,7 +56,7 @@ returns c =
     let s = c.before.before.before.before.before in
     let w = s.requires in
     let b = s.args.bytes.now in
-    c.code-refusal.ensures (is_arikan b) ∙ same_code (is_arikan b) w.m_is (map_part w) (pairs_part w) ∙ left b w.shaped
+    c.code_refusal.ensures (is_arikan b) ∙ same_code (is_arikan b) w.m_is (map_part w) (pairs_part w) ∙ left b w.shaped
 
 pub record_code_refusal_spec : {M : Type 1} → statement M
 record_code_refusal_spec =

@@ -30,71 +30,71 @@ turn s at n i found v r h e q =
     ap (λ (b : Bool). found || b) (ahead s at n i h ∙ ap (λ (b : Bool). b || rest) (sym e))
     ∙ sym (or_assoc found v rest) ∙ ap (λ (b : Bool). b || rest) (sym q)
 
-abbrev invariant-loop : tie.invariant-loop
-invariant-loop bytes at n outside₀ i₀ outside i = (i ≤ n) × (some out_of_range (soft_from bytes at n) ≡ (outside || some out_of_range (soft_from bytes (at + 2 * i) (n - i))))
+abbrev invariant-loop-i : tie.invariant-loop-i
+invariant-loop-i bytes at n outside₀ i₀ outside i = (i ≤ n) × (some out_of_range (soft_from bytes at n) ≡ (outside || some out_of_range (soft_from bytes (at + 2 * i) (n - i))))
 
-abbrev decreases-loop : tie.decreases-loop
-decreases-loop bytes at n outside₀ i₀ outside i = n - i
+abbrev decreases-loop-i : tie.decreases-loop-i
+decreases-loop-i bytes at n outside₀ i₀ outside i = n - i
 
-abbrev start : tie.At-loop invariant-loop decreases-loop → tie.Start invariant-loop decreases-loop
+abbrev start : tie.At-loop-i invariant-loop-i decreases-loop-i → tie.Start invariant-loop-i decreases-loop-i
 start c = c.before.before
 
-loop_holds : tie.Need-loop-init invariant-loop decreases-loop
+loop_holds : tie.Need-loop-i-init invariant-loop-i decreases-loop-i
 loop_holds c =
     let a = c.before.args in
     let e : a.at ≡ a.at + 2 * 0 = omega arith in
     let f : a.n ≡ a.n - 0 = omega arith in
     (omega arith, ap₂ (λ (at n : ℕ). some out_of_range (soft_from a.bytes.now at n)) e f)
 
-mul_soft_value : tie.Need-overflow-mul-soft-value invariant-loop decreases-loop
+mul_soft_value : tie.Need-overflow_mul-i invariant-loop-i decreases-loop-i
 mul_soft_value c = search rules
 
-add_soft_value : tie.Need-overflow-add-soft-value invariant-loop decreases-loop
+add_soft_value : tie.Need-overflow_add-at invariant-loop-i decreases-loop-i
 add_soft_value c = search rules
 
-soft_value_requires : tie.Need-soft-value-requires invariant-loop decreases-loop
+soft_value_requires : tie.Need-soft_value-requires invariant-loop-i decreases-loop-i
 soft_value_requires c κs = search rules
 
-out_of_range_requires : tie.Need-out-of-range-requires invariant-loop decreases-loop
+out_of_range_requires : tie.Need-out_of_range-requires invariant-loop-i decreases-loop-i
 out_of_range_requires c κs = search rules
 
-either_requires : tie.Need-either-requires invariant-loop decreases-loop
+either_requires : tie.Need-either-outside-requires invariant-loop-i decreases-loop-i
 either_requires c κs = search rules
 
-add_i : tie.Need-overflow-add-i invariant-loop decreases-loop
+add_i : tie.Need-overflow_add-i invariant-loop-i decreases-loop-i
 add_i c = search rules
 
-loop_less : tie.Need-loop-smaller invariant-loop decreases-loop
+loop_less : tie.Need-loop-i-smaller invariant-loop-i decreases-loop-i
 loop_less c = search rules
 
-loop_again : tie.Need-loop-preserved invariant-loop decreases-loop
+loop_again : tie.Need-loop-i-preserved invariant-loop-i decreases-loop-i
 loop_again c =
     let o = c.before in
     let t = o.before.before in
     let l = t.before in
     let a = (start l).args in
-    let v = o.before.soft-value in
-    let value = to_z-of_z w16 v.result (record { sfits = v.type-inv }) ∙ v.ensures in (
+    let v = o.before.soft_value in
+    let value = to_z-of_z w16 v.result (record { sfits = v.type_inv }) ∙ v.ensures in (
       omega arith,
-      l.loop.invariant.1
-          ∙ turn a.bytes.now a.at a.n l.loop.i l.loop.outside o.out_of_range.result c.either.result t.loop-test.true
-          (o.out_of_range.ensures ∙ ap out_of_range value) c.either.ensures,
+      l.loop-i.invariant.1
+          ∙ turn a.bytes.now a.at a.n l.loop-i.i l.loop-i.outside o.out_of_range.result c.either-outside.result t.loop-i-test.true
+          (o.out_of_range.ensures ∙ ap out_of_range value) c.either-outside.ensures,
     )
 
-returns : tie.Need-returns invariant-loop decreases-loop
+returns : tie.Need-returns invariant-loop-i decreases-loop-i
 unfolding soft_from some
 returns c =
     let l = c.before in
     let a = (start l).args in
-    let e : a.n - l.loop.i ≡ 0 = omega (arith, c.loop-test.false) in
-    sym (l.loop.invariant.1 ∙ ap (λ (k : ℕ). l.loop.outside || some out_of_range (soft_from a.bytes.now (a.at + 2 * l.loop.i) k)) e ∙ or-false l.loop.outside)
+    let e : a.n - l.loop-i.i ≡ 0 = omega (arith, c.loop-i-test.false) in
+    sym (l.loop-i.invariant.1 ∙ ap (λ (k : ℕ). l.loop-i.outside || some out_of_range (soft_from a.bytes.now (a.at + 2 * l.loop-i.i) k)) e ∙ or-false l.loop-i.outside)
 
 pub some_out_of_range_spec : {M : Type 1} → statement M
 some_out_of_range_spec =
     tie.close
     (tie.spec
-    invariant-loop
-    decreases-loop
+    invariant-loop-i
+    decreases-loop-i
     loop_holds
     mul_soft_value
     add_soft_value

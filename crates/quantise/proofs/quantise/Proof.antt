@@ -74,7 +74,7 @@ returns_2 c =
     let a = (start z.before).args in
     ap (quantised 0)
     (c.before.fill_soft.ensures
-    ∙ filled_behind (pos 0) p.write_pairs.new.1.1.0 a.soft.now z.size-n.result (p.write_pairs.auto.1.1.0 ∙ front z) (fits z)
+    ∙ filled_behind (pos 0) p.write_pairs.new.soft a.soft.now z.size-n.result (p.write_pairs.auto.soft ∙ front z) (fits z)
     ∙ ap (padded (pos 0) (length a.soft.now)) (p.write_pairs.ensures ∙ ap (λ (n : ℕ). soft_pairs a.samples.now 0 (n / 2)) (n_is z)))
     ∙ quantise_served_lem a.m a.samples.now a.soft.now (passed z.before)
 

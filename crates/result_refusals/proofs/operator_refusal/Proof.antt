@@ -13,41 +13,41 @@ use Rattle.laws.specs.ResultReading.{operator_rest, result_value_numbers}
 use Rattle.result_refusals.proofs.operator_refusal.Statement.{statement}
 use Rattle.result_refusals.proofs.operator_refusal.Tie as tie
 
-abbrev start : tie.After-value-refusal → tie.Start
+abbrev start : tie.After-value_refusal-refusal → tie.Start
 start c = c.before.before
 
-abbrev given : tie.After-value-refusal → List ℕ
+abbrev given : tie.After-value_refusal-refusal → List ℕ
 given c = (start c).args.bytes.now
 
-abbrev room : tie.After-value-refusal → List Fault
+abbrev room : tie.After-value_refusal-refusal → List Fault
 room c = room_fault (row_count (given c)) (start c).args.scores ∷ []
 
 -- what the room says is what all say, once the values are passed
-past_values : (c : tie.Else1) (k : ℕ) → First (room c.before) k → k ≡ first (operator_rest (given c.before) (start c.before).args.scores)
+past_values : (c : tie.Else-refusal-ne0) (k : ℕ) → First (room c.before) k → k ≡ first (operator_rest (given c.before) (start c.before).args.scores)
 past_values c k f =
     let v = c.before in
-    first_after (result_value_faults (given v)) (room v) v.value-refusal.result v.value-refusal.ensures (result_value_numbers (given v)) c.if1.false k (is_first (room v) k f)
+    first_after (result_value_faults (given v)) (room v) v.value_refusal-refusal.result v.value_refusal-refusal.ensures (result_value_numbers (given v)) c.if-refusal-ne0.false k (is_first (room v) k f)
 
-value_refusal_requires : tie.Need-value-refusal-requires
+value_refusal_requires : tie.Need-value_refusal-refusal-requires
 value_refusal_requires c κs = search rules
 
-returns : tie.Need-returns
+returns : tie.Need-returns-then-refusal-ne0
 returns c =
     let v = c.before in
-    first_before (result_value_faults (given v)) (room v) v.value-refusal.result v.value-refusal.ensures c.if1.true
+    first_before (result_value_faults (given v)) (room v) v.value_refusal-refusal.result v.value_refusal-refusal.ensures c.if-refusal-ne0.true
 
-returns_2 : tie.Need-returns-2
+returns_2 : tie.Need-returns-then-scores-at
 returns_2 c =
     let e = c.before.before in
     let s = start e.before in
-    let short : s.args.scores < row_count s.args.bytes.now = omega (arith, c.if2.true, s.pre.rows_are) in
+    let short : s.args.scores < row_count s.args.bytes.now = omega (arith, c.if-scores-at.true, s.requires.rows_are) in
     past_values e 10 (here (lt-ltb s.args.scores (row_count s.args.bytes.now) short))
 
-returns_3 : tie.Need-returns-3
+returns_3 : tie.Need-returns
 returns_3 c =
     let e = c.before.before in
     let s = start e.before in
-    let enough : row_count s.args.bytes.now ≤ s.args.scores = omega (arith, c.if2.false, s.pre.rows_are) in
+    let enough : row_count s.args.bytes.now ≤ s.args.scores = omega (arith, c.if-scores-at.false, s.requires.rows_are) in
     past_values e 0 (later (le-ltb s.args.scores (row_count s.args.bytes.now) enough) none)
 
 pub operator_refusal_spec : {M : Type 1} → statement M

@@ -58,7 +58,7 @@ inside : (c : Wide) → c.wide-c.result < length (loop c).loop-i.bins
 inside c =
     let s = start (filled (loop c)) in
     let below = all_at 0 s.requires.2 (loop c).loop-i.i (omega (arith, s.requires.1, c.before.before.loop-i-test.true)) in
-    omega (arith, c.wide-c.ensures, below, (loop c).loop-i.invariant.kept, (filled (loop c)).fill_words.kept.0)
+    omega (arith, c.wide-c.ensures, below, (loop c).loop-i.invariant.kept, (filled (loop c)).fill_words.auto.words)
 
 -- ---- the needs
 fill_words_requires : tie.Need-fill_words-requires invariant-loop-i decreases-loop-i
@@ -124,7 +124,7 @@ returns c =
     let f = filled c.before in
     let a = (start f).args in
     binning_done a.cols.now a.word.now (taken a.soft.now) (word_long f) (cols_long f) c.before.loop-i.invariant (omega (arith, values f))
-    ∙ ap (λ (n : ℕ). map wrapped (binned a.cols.now (signed_by (taken a.soft.now) a.word.now) (replicate n (pos 0)))) f.fill_words.kept.0
+    ∙ ap (λ (n : ℕ). map wrapped (binned a.cols.now (signed_by (taken a.soft.now) a.word.now) (replicate n (pos 0)))) f.fill_words.auto.words
 
 pub bin_positions_spec : {M : Type 1} → statement M
 bin_positions_spec =

@@ -151,7 +151,7 @@ sub_fold_2 t c = omega (arith, both_long t c.before.before)
 part_fold_start : (t : ℕ) → lts.Need-slice_bounds-fold-start (claims t) (bins_at t) bins.Post
 part_fold_start t c = omega (arith, both_long t c.before.before)
 
-part_fold_end : (t : ℕ) → lts.Need-slice_bounds-fold-end (claims t) (bins_at t) bins.Post
+part_fold_end : (t : ℕ) → lts.Need-slice_bounds-fold-end-3 (claims t) (bins_at t) bins.Post
 part_fold_end t c = omega arith
 
 sub_fold_3 : (t : ℕ) → lts.Need-overflow_sub-r-2 (claims t) (bins_at t) bins.Post

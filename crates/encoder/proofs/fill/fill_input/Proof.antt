@@ -30,10 +30,10 @@ start c = c.before.before.before.before.before.before
 
 -- the input once the payload is spread, as long as before
 abbrev out : Spread → List ℕ
-out c = c.spread_payload.new.1.1.0
+out c = c.spread_payload.new.input
 
 long : (c : Spread) → length (out c) ≡ length (start c).args.input.now
-long c = c.spread_payload.auto.1.1.0
+long c = c.spread_payload.auto.input
 
 -- the map has a flag for each position
 enough : (c : At) → length (out (spread_at c)) ≤ 8 * length (start (spread_at c)).args.map.now
@@ -72,22 +72,20 @@ slice_reshare_prefix_frozen_bit : tie.Need-slice_bounds-frozen_bit-end invariant
 slice_reshare_prefix_frozen_bit c = omega (arith, (run c).inside)
 
 slice_aggregate_frozen_bit : tie.Need-slice_bounds-frozen_bit-end-in-loop-at invariant-loop-at decreases-loop-at
-slice_aggregate_frozen_bit c =
-    let e = c.before in
-    sym (length-take-le e.before.named-f.result (at_loop e).loop-at.input (omega (arith, (run e).inside)))
+slice_aggregate_frozen_bit c = sym (length-take-le c.named-f.result (at_loop c).loop-at.input (omega (arith, (run c).inside)))
 
 frozen_bit_requires : tie.Need-frozen_bit-requires invariant-loop-at decreases-loop-at
-frozen_bit_requires c κs = (run c.before).pairs_of
+frozen_bit_requires c κs = (run c).pairs_of
 
 slice_write_input : tie.Need-bounds-input-f invariant-loop-at decreases-loop-at
-slice_write_input c = (run c.before.before).inside
+slice_write_input c = (run c.before).inside
 
 loop_less : tie.Need-loop-at-smaller invariant-loop-at decreases-loop-at
-loop_less c = let h = (run c.before.before).forward in omega (arith, h)
+loop_less c = let h = (run c.before).forward in omega (arith, h)
 
 loop_again : tie.Need-loop-at-preserved invariant-loop-at decreases-loop-at
 loop_again c =
-    let e = c.before.before in
+    let e = c.before in
     summing_run (enough (at_loop e)) (at_loop e).loop-at.invariant (run e) c.frozen_bit.ensures
 
 same_length : tie.Need-shape_of-input invariant-loop-at decreases-loop-at

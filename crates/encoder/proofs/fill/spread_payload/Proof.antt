@@ -1,13 +1,13 @@
 -- `encoder::fill::spread_payload` meets its contract: `Spreading` holds at each turn. Assumes nothing.
 use mathlib.Core.Path.{◌≡◌, refl, sym, ◌∙◌}
 use mathlib.Core.List.{List}
-use mathlib.Core.Logic.{⊎_elim}
 use Prim.Native.Nat.{ℕ, ◌-◌, ◌<◌}
 use native.Mathlib.Omega.{arith}
 use lib.ListN.{length, get_or}
 use Rattle.laws.specs.MapBits.{flags_of, length_flags, flag_at}
 use Rattle.encoder.proofs.Turns.{Spreading, payload_left, spread_bit, spread_zero, spread_done}
 use Rattle.encoder.proofs.fill.spread_payload.Statement.{statement}
+use Rattle.encoder.proofs.fill.spread_payload.Lts.{then-flag-eq0, else-flag-eq0}
 use Rattle.encoder.proofs.fill.spread_payload.Tie as tie
 
 abbrev invariant-loop-i : tie.invariant-loop-i
@@ -72,10 +72,10 @@ loop_again : tie.Need-loop-i-preserved invariant-loop-i decreases-loop-i
 loop_again c =
     let t = c.before in
     let s = t.before.before.loop-i.invariant in
-    ⊎_elim
-    (λ w. rw (w.2, w.3) (spread_bit s (counted t) (in_turn t) (flag_is t ∙ w.0.taken)))
-    (λ w. rw (w.1, w.2) (spread_zero s (counted t) (in_turn t) (λ e. w.0.left (sym (flag_is t) ∙ e))))
-    c.if-flag-eq0.branch
+    elim c.if-flag-eq0.branch [
+      | then-flag-eq0 w ↦ rw (w.input-is, w.j-is) (spread_bit s (counted t) (in_turn t) (flag_is t ∙ w.if-flag-eq0.true))
+      | else-flag-eq0 w ↦ rw (w.input-is, w.j-is) (spread_zero s (counted t) (in_turn t) (λ e. w.if-flag-eq0.false (sym (flag_is t) ∙ e)))
+    ]
 
 same_length : tie.Need-shape_of-input invariant-loop-i decreases-loop-i
 same_length c = c.before.loop-i.invariant.long

@@ -1,7 +1,6 @@
 -- `extractor::gather::frozen_bit_set` meets its contract: what is left to look at decides. Assumes nothing.
 use mathlib.Core.Path.{◌≡◌, refl, sym, ap, ◌∙◌}
 use mathlib.Core.List.{List}
-use mathlib.Core.Logic.{⊎_elim}
 use Prim.Native.Nat.{ℕ, ◌-◌, ◌≤◌, ◌<◌}
 use native.Mathlib.Omega.{arith}
 use lib.ListN.{length, drop, get_or}
@@ -10,6 +9,7 @@ use Rattle.laws.specs.MapBits.{flags_of, length_flags, flag_at}
 use Rattle.laws.specs.FrozenMap.{broken_clear, broken_frozen, broken_here}
 use Rattle.laws.specs.PairRuns.{Unsummed}
 use Rattle.extractor.proofs.gather.frozen_bit_set.Statement.{statement}
+use Rattle.extractor.proofs.gather.frozen_bit_set.Lts.{then-flag-ne0+else-input-i-ne0, else-flag-ne0}
 use Rattle.extractor.proofs.gather.frozen_bit_set.Tie as tie
 
 abbrev invariant-loop-i : tie.invariant-loop-i
@@ -78,10 +78,11 @@ loop_again c =
       omega arith,
       omega arith,
       λ k a. t.before.before.loop-i.invariant.2 k a
-          ∙ ⊎_elim
-          (λ w. broken_frozen (fs t) (i t) (inside t) (λ e. w.0.taken (sym (flag_is t) ∙ e)) k (u t) (w.2.left ∙ sym (sum_is t k a)))
-          (λ w. broken_clear (fs t) (i t) (inside t) (flag_is t ∙ w.left) k (u t))
-          c.if-flag-ne0.branch,
+          ∙ (elim c.if-flag-ne0.branch [
+            | then-flag-ne0+else-input-i-ne0 w ↦
+                broken_frozen (fs t) (i t) (inside t) (λ e. w.if-flag-ne0.true (sym (flag_is t) ∙ e)) k (u t) (w.if-input-i-ne0.false ∙ sym (sum_is t k a))
+            | else-flag-ne0 w ↦ broken_clear (fs t) (i t) (inside t) (flag_is t ∙ w.if-flag-ne0.false) k (u t)
+          ]),
     )
 
 returns_2 : tie.Need-returns invariant-loop-i decreases-loop-i

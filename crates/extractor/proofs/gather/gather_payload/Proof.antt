@@ -1,13 +1,13 @@
 -- `extractor::gather::gather_payload` meets its contract: `Gathering` holds at each turn. Assumes nothing.
 use mathlib.Core.Path.{◌≡◌, refl, sym, ◌∙◌}
 use mathlib.Core.List.{List}
-use mathlib.Core.Logic.{⊎_elim}
 use Prim.Native.Nat.{ℕ, ◌-◌, ◌<◌}
 use native.Mathlib.Omega.{arith}
 use lib.ListN.{length, get_or}
 use Rattle.laws.specs.MapBits.{flags_of, length_flags, flag_at}
 use Rattle.extractor.proofs.Turns.{Gathering, room_left, gather_bit, gather_none, gather_done}
 use Rattle.extractor.proofs.gather.gather_payload.Statement.{statement}
+use Rattle.extractor.proofs.gather.gather_payload.Lts.{then-flag-eq0, else-flag-eq0}
 use Rattle.extractor.proofs.gather.gather_payload.Tie as tie
 
 abbrev invariant-loop-i : tie.invariant-loop-i
@@ -67,10 +67,10 @@ loop_again c =
     let t = c.before in
     let s = t.before.before.loop-i.invariant in
     let l = t.before.loop-i-test.true in
-    ⊎_elim
-    (λ w. rw (w.2, w.3) (gather_bit s (counted t) refl l (flag_is t ∙ w.0.taken)))
-    (λ w. rw (w.1, w.2) (gather_none s (counted t) refl l (λ e. w.0.left (sym (flag_is t) ∙ e))))
-    c.if-flag-eq0.branch
+    elim c.if-flag-eq0.branch [
+      | then-flag-eq0 w ↦ rw (w.payload-is, w.j-is) (gather_bit s (counted t) refl l (flag_is t ∙ w.if-flag-eq0.true))
+      | else-flag-eq0 w ↦ rw (w.payload-is, w.j-is) (gather_none s (counted t) refl l (λ e. w.if-flag-eq0.false (sym (flag_is t) ∙ e)))
+    ]
 
 same_length : tie.Need-shape_of-payload invariant-loop-i decreases-loop-i
 same_length c = c.before.loop-i.invariant.long

@@ -23,85 +23,85 @@ begin : (c : tie.Start) → c.args.end + 2 ≡ pairs_at c.args.bytes.now
 begin c = ap (λ (e : ℕ). e + 2) c.requires.0.ends_at ∙ pairs_behind c.args.bytes.now (stands c)
 
 -- what is known once the record reaches to its count
-abbrev start : tie.After-two → tie.Start
+abbrev start : tie.After-two-count → tie.Start
 start c = c.before.before.before
 
-abbrev given : tie.After-two → List ℕ
+abbrev given : tie.After-two-count → List ℕ
 given c = (start c).args.bytes.now
 
-reaches : (c : tie.After-two) → pairs_at (given c) ≤ length (given c)
-reaches c = omega (arith, begin (start c), c.before.if1.false)
+reaches : (c : tie.After-two-count) → pairs_at (given c) ≤ length (given c)
+reaches c = omega (arith, begin (start c), c.before.if-bytes-pairs.false)
 
-counted : (c : tie.After-two) → c.two.result ≡ pair_count (given c)
-counted c = c.two.ensures.0 ∙ ap (two_at (given c)) (start c).requires.0.ends_at ∙ count_stands (given c) (stands (start c))
+counted : (c : tie.After-two-count) → c.two-count.result ≡ pair_count (given c)
+counted c = c.two-count.ensures.0 ∙ ap (two_at (given c)) (start c).requires.0.ends_at ∙ count_stands (given c) (stands (start c))
 
-soft_is : (c : tie.After-two) → (start c).args.end + 2 + 4 * c.two.result ≡ soft_at (given c)
+soft_is : (c : tie.After-two-count) → (start c).args.end + 2 + 4 * c.two-count.result ≡ soft_at (given c)
 soft_is c = omega (arith, begin (start c), counted c)
 
 -- the length that is compared
-abbrev sum : tie.After-two → ℕ
-sum c = (start c).args.end + 2 + 4 * c.two.result + 2 * (start c).args.n
+abbrev sum : tie.After-two-count → ℕ
+sum c = (start c).args.end + 2 + 4 * c.two-count.result + 2 * (start c).args.n
 
-needed : (c : tie.After-two) → sum c ≡ soft_at (given c) + 2 * positions (given c)
+needed : (c : tie.After-two-count) → sum c ≡ soft_at (given c) + 2 * positions (given c)
 needed c = omega (arith, soft_is c, (start c).requires.0.n_is)
 
-few : (c : tie.Else2) → pair_count (given c.before) ≤ 256
-few c = omega (arith, counted c.before, ltb-false 256 c.before.two.result c.if2.false)
+few : (c : tie.Else-many) → pair_count (given c.before) ≤ 256
+few c = omega (arith, counted c.before, c.if-many.false)
 
-add_pairs : tie.Need-overflow-add-pairs
+add_pairs : tie.Need-overflow_add-pairs
 add_pairs c = search rules
 
-returns : tie.Need-returns
+returns : tie.Need-returns-then-bytes-pairs
 returns c =
     let s = c.before.before in
     let b = s.args.bytes.now in
-    let short : length b < pairs_at b = omega (arith, begin s, c.if1.true) in
+    let short : length b < pairs_at b = omega (arith, begin s, c.if-bytes-pairs.true) in
     refuses {fs = length_faults b} (here (lt-ltb (length b) (pairs_at b) short)) (omega arith)
 
-two_requires : tie.Need-two-requires
+two_requires : tie.Need-two-count-requires
 two_requires c κs = search rules
 
-cast_soft : tie.Need-overflow-cast-soft
+cast_soft : tie.Need-overflow_cast-soft
 cast_soft c = search rules
 
-mul_soft : tie.Need-overflow-mul-soft
+mul_soft : tie.Need-overflow_mul-soft
 mul_soft c = search rules
 
-add_soft : tie.Need-overflow-add-soft
+add_soft : tie.Need-overflow_add-soft
 add_soft c = search rules
 
-mul_wrong : tie.Need-overflow-mul-wrong
+mul_wrong : tie.Need-overflow_mul-wrong
 mul_wrong c = search rules
 
-add_wrong : tie.Need-overflow-add-wrong
+add_wrong : tie.Need-overflow_add-wrong
 add_wrong c = search rules
 
-returns_2 : tie.Need-returns-2
+returns_2 : tie.Need-returns-then-many
 returns_2 c =
     let t = c.before in
-    refuses (too_many (given t) (reaches t) (omega (arith, counted t, ltb-true 256 t.two.result c.if2.true))) (omega arith)
+    refuses (too_many (given t) (reaches t) (omega (arith, counted t, c.if-many.true))) (omega arith)
 
-returns_3 : tie.Need-returns-3
+returns_3 : tie.Need-returns-then-wrong
 returns_3 c =
     let t = c.before.before in
     refuses
-    (paired_wrong (given t) (reaches t) (few c.before) (λ q. true≢false (sym c.if3.true ∙ same (length (given t)) (sum t) (q ∙ sym (needed t)))))
+    (paired_wrong (given t) (reaches t) (few c.before) (λ q. c.if-wrong.true (q ∙ sym (needed t))))
     (omega arith)
 
-map_at_requires : tie.Need-map-at-requires
+map_at_requires : tie.Need-map_at-requires
 map_at_requires c κs = search rules
 
-returns_4 : tie.Need-returns-4
+returns_4 : tie.Need-returns
 returns_4 c =
     let t = c.before.before.before in
     let s = start t in
-    let w = s.pre.0 in
+    let w = s.requires.0 in
     located (given t) record {
       shaped = record {
         low = w.headed.low;
         high = w.headed.high;
         few = few c.before.before;
-        whole = same_of (length (given t)) (sum t) c.before.if3.false ∙ needed t;
+        whole = c.before.if-wrong.false ∙ needed t;
       };
       fields_are = w.headed.fields_are;
       m_is = w.headed.m_is;

@@ -16,28 +16,28 @@ absent c = sym (ap (λ (f : ℕ). f / 8 % 2) c.requires.0.headed.fields_are) ∙
 needed : (c : tie.Start) → c.args.end + 2 * c.args.n ≡ count_at c.args.bytes.now + 2 * positions c.args.bytes.now
 needed c = let w = c.requires.0 in ap₂ (λ (e n : ℕ). e + 2 * n) w.ends_at w.n_is
 
-mul_if1 : tie.Need-overflow-mul-if1
+mul_if1 : tie.Need-overflow_mul-n
 mul_if1 c = search rules
 
-add_if1 : tie.Need-overflow-add-if1
+add_if1 : tie.Need-overflow_add-end
 add_if1 c = search rules
 
-returns : tie.Need-returns
+returns : tie.Need-returns-then-bytes-end
 returns c =
     let s = c.before.before in
     let b = s.args.bytes.now in
-    refuses (plain_wrong b (absent s) (λ q. c.if1.true (q ∙ sym (needed s)))) (omega arith)
+    refuses (plain_wrong b (absent s) (λ q. c.if-bytes-end.true (q ∙ sym (needed s)))) (omega arith)
 
-map_at_requires : tie.Need-map-at-requires
+map_at_requires : tie.Need-map_at-requires
 map_at_requires c κs = search rules
 
-returns_2 : tie.Need-returns-2
+returns_2 : tie.Need-returns
 returns_2 c =
     let s = c.before.before.before in
     let b = s.args.bytes.now in
     let w = s.requires.0 in
     let k = no_count b (absent s) in
-    let whole = c.before.if1.false ∙ needed s in
+    let whole = c.before.if-bytes-end.false ∙ needed s in
     let e = absent s in
     located b record {
       shaped = record { low = w.headed.low; high = w.headed.high; few = omega (arith, k); whole = omega (arith, whole, k, e) };

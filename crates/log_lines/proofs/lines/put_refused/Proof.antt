@@ -8,9 +8,6 @@ use Rattle.page.specs.Lines.{refused_line}
 use Rattle.log_lines.proofs.lines.put_refused.Statement.{statement}
 use Rattle.log_lines.proofs.lines.put_refused.Tie as tie
 
-slice_aggregate_put_named : tie.Need-slice-aggregate-put-named
-slice_aggregate_put_named c = search rules
-
 put_named_requires : tie.Need-put_named-a-requires
 put_named_requires c κs = search rules
 
@@ -48,7 +45,6 @@ pub put_refused_spec : {M : Type 1} → statement M
 put_refused_spec =
     tie.close
     (tie.spec
-    slice_aggregate_put_named
     put_named_requires
     add_put_spaces
     sub_put_spaces

@@ -7,9 +7,6 @@ use Rattle.place.specs.Put.{then}
 put_byte_requires : tie.Need-put_byte-gap-requires
 put_byte_requires c κs = search rules
 
-slice_aggregate_put_right : tie.Need-slice-aggregate-put-right
-slice_aggregate_put_right c = search rules
-
 put_right_requires : tie.Need-put_right-requires
 put_right_requires c κs = search rules
 
@@ -25,4 +22,4 @@ returns c =
 pub put_none_spec : {M : Type 1} → statement M
 put_none_spec =
     tie.close
-    (tie.spec put_byte_requires slice_aggregate_put_right put_right_requires same_length returns)
+    (tie.spec put_byte_requires put_right_requires same_length returns)

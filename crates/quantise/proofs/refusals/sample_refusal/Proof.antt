@@ -4,6 +4,7 @@ use mathlib.Core.Path.{◌≡◌, sym, ap, ◌∙◌}
 use mathlib.Core.Bool.{Bool, true, false, not}
 use Prim.Native.Nat.{ℕ, ◌*◌}
 use borrow.Author.Rules.{rules}
+use borrow.Author.Tests.{lt-ltb, le-ltb, eq-eqb, ne_eqb}
 use lib.Dec.{ltb, eqb}
 use Rattle.spec.specs.Faults.{outside}
 use Rattle.laws.specs.FirstFault.{none, here, later, below, above, inside}
@@ -42,21 +43,21 @@ returns_3 : tie.Need-returns-then-wrong
 returns_3 c =
     let z = c.before in
     let x = z.before.before.before.args in
-    refused_by_lem x.m x.bytes x.softs 6 (later (ok1 z.before) (here (length_test z.size-n.ensures.0 x.bytes true c.if-wrong.true)))
+    refused_by_lem x.m x.bytes x.softs 6 (later (ok1 z.before) (here (length_test z.size-n.ensures.0 x.bytes true (ap not (ne_eqb _ _ c.if-wrong.true)))))
 
 returns_4 : tie.Need-returns-then-short
 returns_4 c =
     let z = c.before.before in
     let x = z.before.before.before.args in
     refused_by_lem x.m x.bytes x.softs 10
-    (later (ok1 z.before) (later (length_test z.size-n.ensures.0 x.bytes false c.before.if-wrong.false) (here (room_test z.size-n.ensures.0 x.softs true c.if-short.true))))
+    (later (ok1 z.before) (later (length_test z.size-n.ensures.0 x.bytes false (ap not (eq-eqb _ _ c.before.if-wrong.false))) (here (room_test z.size-n.ensures.0 x.softs true (lt-ltb _ _ c.if-short.true)))))
 
 returns_5 : tie.Need-returns
 returns_5 c =
     let z = c.before.before in
     let x = z.before.before.before.args in
     refused_by_lem x.m x.bytes x.softs 0
-    (later (ok1 z.before) (later (length_test z.size-n.ensures.0 x.bytes false c.before.if-wrong.false) (later (room_test z.size-n.ensures.0 x.softs false c.if-short.false) none)))
+    (later (ok1 z.before) (later (length_test z.size-n.ensures.0 x.bytes false (ap not (eq-eqb _ _ c.before.if-wrong.false))) (later (room_test z.size-n.ensures.0 x.softs false (le-ltb _ _ c.if-short.false)) none)))
 
 pub sample_refusal_spec : {M : Type 1} → statement M
 sample_refusal_spec =

@@ -14,19 +14,19 @@ use Rattle.result_refusals.proofs.head.read_head.Statement.{statement}
 use Rattle.result_refusals.proofs.head.read_head.Tie as tie
 
 -- the record at each place
-abbrev at_if1 : tie.Else1 → List ℕ
+abbrev at_if1 : tie.Else-bytes-eq0 → List ℕ
 at_if1 c = c.before.before.args.bytes.now
 
-abbrev at_wide : tie.After-wide → List ℕ
+abbrev at_wide : tie.After-wide-fields → List ℕ
 at_wide c = at_if1 c.before.before
 
-abbrev at_if3 : tie.Else3 → List ℕ
+abbrev at_if3 : tie.Else-bytes-lt3 → List ℕ
 at_if3 c = at_wide c.before.before
 
-abbrev at_wide2 : tie.After-wide2 → List ℕ
+abbrev at_wide2 : tie.After-wide-m → List ℕ
 at_wide2 c = at_if3 c.before.before
 
-abbrev at_wide3 : tie.After-wide3 → List ℕ
+abbrev at_wide3 : tie.After-wide-rows → List ℕ
 at_wide3 c = at_wide2 c.before.before.before.before
 
 -- the table without its first i conditions
@@ -34,109 +34,109 @@ abbrev from : ℕ → List ℕ → List Fault
 from i s = drop i (result_head_faults s)
 
 -- past each test
-past1 : {k : ℕ} (c : tie.Else1) → First (from 1 (at_if1 c)) k → First (from 0 (at_if1 c)) k
-past1 c = later (ne_eqb (length (at_if1 c)) 0 c.if1.false)
+past1 : {k : ℕ} (c : tie.Else-bytes-eq0) → First (from 1 (at_if1 c)) k → First (from 0 (at_if1 c)) k
+past1 c = later (ne_eqb (length (at_if1 c)) 0 c.if-bytes-eq0.false)
 
-past2 : {k : ℕ} (c : tie.Else2) → First (from 2 (at_wide c.before)) k → First (from 0 (at_wide c.before)) k
+past2 : {k : ℕ} (c : tie.Else-fields-gt3) → First (from 2 (at_wide c.before)) k → First (from 0 (at_wide c.before)) k
 past2 c f =
-    let known : fields (at_wide c.before) ≤ 3 = omega (arith, c.before.wide.ensures.0, c.if2.false) in
+    let known : fields (at_wide c.before) ≤ 3 = omega (arith, c.before.wide-fields.ensures.0, c.if-fields-gt3.false) in
     past1 c.before.before.before (later (le-ltb 3 (fields (at_wide c.before)) known) f)
 
-past3 : {k : ℕ} (c : tie.Else3) → First (from 3 (at_if3 c)) k → First (from 0 (at_if3 c)) k
-past3 c f = past2 c.before (later (le-ltb (length (at_if3 c)) 3 c.if3.false) f)
+past3 : {k : ℕ} (c : tie.Else-bytes-lt3) → First (from 3 (at_if3 c)) k → First (from 0 (at_if3 c)) k
+past3 c f = past2 c.before (later (le-ltb (length (at_if3 c)) 3 c.if-bytes-lt3.false) f)
 
-past4 : {k : ℕ} (c : tie.Else5) → First (from 4 (at_wide2 c.before.before)) k → First (from 0 (at_wide2 c.before.before)) k
+past4 : {k : ℕ} (c : tie.Else-m-gt10) → First (from 4 (at_wide2 c.before.before)) k → First (from 0 (at_wide2 c.before.before)) k
 past4 c f =
     let w = c.before.before in
-    let low : 2 ≤ exponent (at_wide2 w) = omega (arith, w.wide2.ensures.0, c.before.if4.false) in
-    let high : exponent (at_wide2 w) ≤ 10 = omega (arith, w.wide2.ensures.0, c.if5.false) in
+    let low : 2 ≤ exponent (at_wide2 w) = omega (arith, w.wide-m.ensures.0, c.before.if-m-lt2.false) in
+    let high : exponent (at_wide2 w) ≤ 10 = omega (arith, w.wide-m.ensures.0, c.if-m-gt10.false) in
     past3 w.before.before (later (inside 2 10 (exponent (at_wide2 w)) low high) f)
 
-past5 : {k : ℕ} (c : tie.Else7) → First (from 5 (at_wide3 c.before.before)) k → First (from 0 (at_wide3 c.before.before)) k
+past5 : {k : ℕ} (c : tie.Else-rows-gt32) → First (from 5 (at_wide3 c.before.before)) k → First (from 0 (at_wide3 c.before.before)) k
 past5 c f =
     let w = c.before.before in
-    let some : 1 ≤ row_count (at_wide3 w) = omega (arith, w.wide3.ensures.0, c.before.if6.false) in
-    let few : row_count (at_wide3 w) ≤ 32 = omega (arith, w.wide3.ensures.0, c.if7.false) in
+    let some : 1 ≤ row_count (at_wide3 w) = omega (arith, w.wide-rows.ensures.0, c.before.if-rows-lt1.false) in
+    let few : row_count (at_wide3 w) ≤ 32 = omega (arith, w.wide-rows.ensures.0, c.if-rows-gt32.false) in
     past4 w.before.before (later (inside 1 32 (row_count (at_wide3 w)) some few) f)
 
-returns : tie.Need-returns
+returns : tie.Need-returns-then-bytes-eq0
 returns c =
     let s = c.before.before.args.bytes.now in
-    refuses {fs = result_head_faults s} (here (eq-eqb (length s) 0 c.if1.true)) (omega arith)
+    refuses {fs = result_head_faults s} (here (eq-eqb (length s) 0 c.if-bytes-eq0.true)) (omega arith)
 
-shared_slice_read_wide : tie.Need-shared-slice-read-wide
+shared_slice_read_wide : tie.Need-bounds-bytes-0
 shared_slice_read_wide c = search rules
 
-wide_requires : tie.Need-wide-requires
+wide_requires : tie.Need-wide-fields-requires
 wide_requires c κs = search rules
 
-returns_2 : tie.Need-returns-2
+returns_2 : tie.Need-returns-then-fields-gt3
 returns_2 c =
     let s = at_wide c.before in
-    let unknown : 3 < fields s = omega (arith, c.before.wide.ensures.0, c.if2.true) in
+    let unknown : 3 < fields s = omega (arith, c.before.wide-fields.ensures.0, c.if-fields-gt3.true) in
     refuses {fs = result_head_faults s} (past1 c.before.before.before (here (lt-ltb 3 (fields s) unknown))) (omega arith)
 
-returns_3 : tie.Need-returns-3
+returns_3 : tie.Need-returns-then-bytes-lt3
 returns_3 c =
     let s = at_wide c.before.before in
-    refuses {fs = result_head_faults s} (past2 c.before (here (lt-ltb (length s) 3 c.if3.true))) (omega arith)
+    refuses {fs = result_head_faults s} (past2 c.before (here (lt-ltb (length s) 3 c.if-bytes-lt3.true))) (omega arith)
 
-shared_slice_read_wide_2 : tie.Need-shared-slice-read-wide-2
+shared_slice_read_wide_2 : tie.Need-bounds-bytes-1
 shared_slice_read_wide_2 c = search rules
 
-wide_requires_2 : tie.Need-wide-requires-2
+wide_requires_2 : tie.Need-wide-m-requires
 wide_requires_2 c κs = search rules
 
-returns_4 : tie.Need-returns-4
+returns_4 : tie.Need-returns-then-m-lt2
 returns_4 c =
     let w = c.before in
     let s = at_wide2 w in
-    let low : exponent s < 2 = omega (arith, w.wide2.ensures.0, c.if4.true) in
+    let low : exponent s < 2 = omega (arith, w.wide-m.ensures.0, c.if-m-lt2.true) in
     refuses {fs = result_head_faults s} (past3 w.before.before (here (below 2 10 (exponent s) low))) (omega arith)
 
-returns_5 : tie.Need-returns-5
+returns_5 : tie.Need-returns-then-m-gt10
 returns_5 c =
     let w = c.before.before in
     let s = at_wide2 w in
-    let high : 10 < exponent s = omega (arith, w.wide2.ensures.0, c.if5.true) in
+    let high : 10 < exponent s = omega (arith, w.wide-m.ensures.0, c.if-m-gt10.true) in
     refuses {fs = result_head_faults s} (past3 w.before.before (here (above 2 10 (exponent s) high))) (omega arith)
 
-shared_slice_read_wide_3 : tie.Need-shared-slice-read-wide-3
+shared_slice_read_wide_3 : tie.Need-bounds-bytes-2
 shared_slice_read_wide_3 c = search rules
 
-wide_requires_3 : tie.Need-wide-requires-3
+wide_requires_3 : tie.Need-wide-rows-requires
 wide_requires_3 c κs = search rules
 
-returns_6 : tie.Need-returns-6
+returns_6 : tie.Need-returns-then-rows-lt1
 returns_6 c =
     let w = c.before in
     let s = at_wide3 w in
-    let low : row_count s < 1 = omega (arith, w.wide3.ensures.0, c.if6.true) in
+    let low : row_count s < 1 = omega (arith, w.wide-rows.ensures.0, c.if-rows-lt1.true) in
     refuses {fs = result_head_faults s} (past4 w.before.before (here (below 1 32 (row_count s) low))) (omega arith)
 
-returns_7 : tie.Need-returns-7
+returns_7 : tie.Need-returns-then-rows-gt32
 returns_7 c =
     let w = c.before.before in
     let s = at_wide3 w in
-    let high : 32 < row_count s = omega (arith, w.wide3.ensures.0, c.if7.true) in
+    let high : 32 < row_count s = omega (arith, w.wide-rows.ensures.0, c.if-rows-gt32.true) in
     refuses {fs = result_head_faults s} (past4 w.before.before (here (above 1 32 (row_count s) high))) (omega arith)
 
-returns_8 : tie.Need-returns-8
+returns_8 : tie.Need-returns
 returns_8 c =
     let w = c.before.before in
     let v = w.before.before.before.before in
     let u = v.before.before.before.before in
     let s = at_wide3 w in (
       record {
-        fields_are = u.wide.ensures.0;
-        m_is = v.wide2.ensures.0;
-        rows_are = w.wide3.ensures.0;
-        begun = v.before.before.if3.false;
-        known = omega (arith, u.wide.ensures.0, v.before.before.before.if2.false);
-        low = omega (arith, v.wide2.ensures.0, w.before.before.before.if4.false);
-        high = omega (arith, v.wide2.ensures.0, w.before.before.if5.false);
-        some_rows = omega (arith, w.wide3.ensures.0, c.before.if6.false);
-        few_rows = omega (arith, w.wide3.ensures.0, c.if7.false);
+        fields_are = u.wide-fields.ensures.0;
+        m_is = v.wide-m.ensures.0;
+        rows_are = w.wide-rows.ensures.0;
+        begun = v.before.before.if-bytes-lt3.false;
+        known = omega (arith, u.wide-fields.ensures.0, v.before.before.before.if-fields-gt3.false);
+        low = omega (arith, v.wide-m.ensures.0, w.before.before.before.if-m-lt2.false);
+        high = omega (arith, v.wide-m.ensures.0, w.before.before.if-m-gt10.false);
+        some_rows = omega (arith, w.wide-rows.ensures.0, c.before.if-rows-lt1.false);
+        few_rows = omega (arith, w.wide-rows.ensures.0, c.if-rows-gt32.false);
       },
       is_first (result_head_faults s) 0 (past5 c none),
     )

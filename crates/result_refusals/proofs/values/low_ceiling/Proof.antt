@@ -17,30 +17,30 @@ use Rattle.result_refusals.proofs.values.low_ceiling.Tie as tie
 bit : (c : tie.Start) → c.args.at.fields / 2 % 2 ≡ fields c.args.bytes.now / 2 % 2
 bit c = ap (λ (f : ℕ). f / 2 % 2) c.requires.fields_are
 
-returns : tie.Need-returns
+returns : tie.Need-returns-then-at-eq0
 returns c =
     let s = c.before.before.before in
     let b = s.args.bytes.now in
-    let none = ne_eqb (fields b / 2 % 2) 1 (λ q. omega (arith, bit s, c.if1.true, q)) in
+    let none = ne_eqb (fields b / 2 % 2) 1 (λ q. omega (arith, bit s, c.if-at-eq0.true, q)) in
     sym (ap (λ (t : Bool). t && le_z (result_ceiling b) (first_score (result_scores b))) none)
 
-ceiling_of_requires : tie.Need-ceiling-of-requires
+ceiling_of_requires : tie.Need-ceiling_of-y-requires
 ceiling_of_requires c κs = search rules
 
-first_score_requires : tie.Need-first-score-requires
+first_score_requires : tie.Need-first_score-z-requires
 first_score_requires c κs = search rules
 
-returns_2 : tie.Need-returns-2
+returns_2 : tie.Need-returns
 returns_2 c =
-    let y = c.before.ceiling-of in
-    let z = c.first-score in
+    let y = c.before.ceiling_of-y in
+    let z = c.first_score-z in
     let e = c.before.before in
     let s = e.before.before.before in
     let b = s.args.bytes.now in
-    let one = eq-eqb (fields b / 2 % 2) 1 (omega (arith, bit s, e.if1.false)) in
+    let one = eq-eqb (fields b / 2 % 2) 1 (omega (arith, bit s, e.if-at-eq0.false)) in
     ap₂ le_z
-    (to_z-of_z w32 y.result (record { sfits = y.type-inv }) ∙ y.ensures)
-    (to_z-of_z w32 z.result (record { sfits = z.type-inv }) ∙ z.ensures)
+    (to_z-of_z w32 y.result (record { sfits = y.type_inv }) ∙ y.ensures)
+    (to_z-of_z w32 z.result (record { sfits = z.type_inv }) ∙ z.ensures)
     ∙ sym (ap (λ (t : Bool). t && le_z (result_ceiling b) (first_score (result_scores b))) one)
 
 pub low_ceiling_spec : {M : Type 1} → statement M

@@ -9,66 +9,66 @@ use mathlib.Core.Bool.{true, false}
 use Rattle.spec.specs.ResultRecord.{scores_from, rising}
 use Rattle.result_refusals.specs.Turns.{rising_turn, rising_end}
 
-abbrev invariant-loop : tie.invariant-loop
-invariant-loop bytes at k i₀ i = (i < k) × (rising (scores_from bytes at k) ≡ rising (scores_from bytes (at + 4 * i) (k - i)))
+abbrev invariant-loop-i : tie.invariant-loop-i
+invariant-loop-i bytes at k i₀ i = (i < k) × (rising (scores_from bytes at k) ≡ rising (scores_from bytes (at + 4 * i) (k - i)))
 
-abbrev decreases-loop : tie.decreases-loop
-decreases-loop bytes at k i₀ i = k - i
+abbrev decreases-loop-i : tie.decreases-loop-i
+decreases-loop-i bytes at k i₀ i = k - i
 
-loop_holds : tie.Need-loop-init invariant-loop decreases-loop
+loop_holds : tie.Need-loop-i-init invariant-loop-i decreases-loop-i
 loop_holds c =
     let a = c.before.args in
     let e : a.at ≡ a.at + 4 * 0 = omega arith in
     let f : a.k ≡ a.k - 0 = omega arith in
     (omega arith, ap₂ (λ (at k : ℕ). rising (scores_from a.bytes.now at k)) e f)
 
-sub_loop : tie.Need-overflow-sub-loop invariant-loop decreases-loop
+sub_loop : tie.Need-overflow_sub-k invariant-loop-i decreases-loop-i
 sub_loop c = search rules
 
-mul_next_above : tie.Need-overflow-mul-next-above invariant-loop decreases-loop
+mul_next_above : tie.Need-overflow_mul-i invariant-loop-i decreases-loop-i
 mul_next_above c = search rules
 
-add_next_above : tie.Need-overflow-add-next-above invariant-loop decreases-loop
+add_next_above : tie.Need-overflow_add-at invariant-loop-i decreases-loop-i
 add_next_above c = search rules
 
-next_above_requires : tie.Need-next-above-requires invariant-loop decreases-loop
+next_above_requires : tie.Need-next_above-requires invariant-loop-i decreases-loop-i
 next_above_requires c κs = search rules
 
-returns : tie.Need-returns invariant-loop decreases-loop
+returns : tie.Need-returns-then-next_above invariant-loop-i decreases-loop-i
 returns c =
     let l = c.before.before.before in
     let a = l.before.before.args in
-    let i = l.loop.i in
-    sym (l.loop.invariant.1 ∙ rising_turn a.bytes.now a.at a.k i true (omega (arith, c.before.before.loop-test.true)) (sym c.before.next-above.ensures ∙ c.if1.true))
+    let i = l.loop-i.i in
+    sym (l.loop-i.invariant.1 ∙ rising_turn a.bytes.now a.at a.k i true (omega (arith, c.before.before.loop-i-test.true)) (sym c.before.next_above.ensures ∙ c.if-next_above.true))
 
-add_i : tie.Need-overflow-add-i invariant-loop decreases-loop
+add_i : tie.Need-overflow_add-i invariant-loop-i decreases-loop-i
 add_i c = search rules
 
-loop_less : tie.Need-loop-smaller invariant-loop decreases-loop
+loop_less : tie.Need-loop-i-smaller invariant-loop-i decreases-loop-i
 loop_less c = search rules
 
-loop_again : tie.Need-loop-preserved invariant-loop decreases-loop
+loop_again : tie.Need-loop-i-preserved invariant-loop-i decreases-loop-i
 loop_again c =
     let l = c.before.before.before in
     let a = l.before.before.args in
-    let i = l.loop.i in (
-      omega (arith, c.before.before.loop-test.true),
-      l.loop.invariant.1 ∙ rising_turn a.bytes.now a.at a.k i false (omega (arith, c.before.before.loop-test.true)) (sym c.before.next-above.ensures ∙ c.if1.false),
+    let i = l.loop-i.i in (
+      omega (arith, c.before.before.loop-i-test.true),
+      l.loop-i.invariant.1 ∙ rising_turn a.bytes.now a.at a.k i false (omega (arith, c.before.before.loop-i-test.true)) (sym c.before.next_above.ensures ∙ c.if-next_above.false),
     )
 
-returns_2 : tie.Need-returns-2 invariant-loop decreases-loop
+returns_2 : tie.Need-returns invariant-loop-i decreases-loop-i
 returns_2 c =
     let l = c.before in
     let a = l.before.before.args in
-    let i = l.loop.i in
-    sym (l.loop.invariant.1 ∙ rising_end a.bytes.now a.at a.k i (omega (arith, c.loop-test.false, l.loop.invariant.0)))
+    let i = l.loop-i.i in
+    sym (l.loop-i.invariant.1 ∙ rising_end a.bytes.now a.at a.k i (omega (arith, c.loop-i-test.false, l.loop-i.invariant.0)))
 
 pub scores_rise_spec : {M : Type 1} → statement M
 scores_rise_spec =
     tie.close
     (tie.spec
-    invariant-loop
-    decreases-loop
+    invariant-loop-i
+    decreases-loop-i
     loop_holds
     sub_loop
     mul_next_above

@@ -15,23 +15,23 @@ use Rattle.result_refusals.proofs.values.zero_frame.Tie as tie
 bit : (c : tie.Start) → c.args.at.fields % 2 ≡ fields c.args.bytes.now % 2
 bit c = ap (λ (f : ℕ). f % 2) c.requires.fields_are
 
-returns : tie.Need-returns
+returns : tie.Need-returns-then-at-eq0
 returns c =
     let s = c.before.before.before in
     let b = s.args.bytes.now in
-    let none = ne_eqb (fields b % 2) 1 (λ q. omega (arith, bit s, c.if1.true, q)) in
+    let none = ne_eqb (fields b % 2) 1 (λ q. omega (arith, bit s, c.if-at-eq0.true, q)) in
     sym (ap (λ (t : Bool). t && eqb (result_frame b) 0) none)
 
-frame_number_requires : tie.Need-frame-number-requires
+frame_number_requires : tie.Need-frame_number-requires
 frame_number_requires c κs = search rules
 
-returns_2 : tie.Need-returns-2
+returns_2 : tie.Need-returns
 returns_2 c =
     let e = c.before in
     let s = e.before.before.before in
     let b = s.args.bytes.now in
-    let one = eq-eqb (fields b % 2) 1 (omega (arith, bit s, e.if1.false)) in
-    sym (ap₂ (λ (t : Bool) (x : ℕ). t && eqb x 0) one (sym c.frame-number.ensures))
+    let one = eq-eqb (fields b % 2) 1 (omega (arith, bit s, e.if-at-eq0.false)) in
+    sym (ap₂ (λ (t : Bool) (x : ℕ). t && eqb x 0) one (sym c.frame_number.ensures))
 
 pub zero_frame_spec : {M : Type 1} → statement M
 zero_frame_spec = tie.close (tie.spec returns frame_number_requires returns_2)

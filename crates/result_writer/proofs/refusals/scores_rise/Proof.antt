@@ -51,7 +51,7 @@ tested k b e =
     let p = q.before in
     let l = p.before.before in
     let ys = l.before.args.scores.now in
-    sym (k.below.ensures ∙ ap₂ lt_z (to_z-of_z w32 (get_or ys (l.loop-i.i - 1) (pos 0)) (record { sfits = p.below-arg.given })) (to_z-of_z w32 (get_or ys l.loop-i.i (pos 0)) (record { sfits = q.below-arg-in-loop-i-1.given }))) ∙ e
+    sym (k.below.ensures ∙ ap₂ lt_z (to_z-of_z w32 (get_or ys (l.loop-i.i - 1) (pos 0)) (record { sfits = p.below-arg-1.given })) (to_z-of_z w32 (get_or ys l.loop-i.i (pos 0)) (record { sfits = q.below-arg-in-loop-i-1.given }))) ∙ e
 
 returns : tie.Need-returns-then-below invariant-loop-i decreases-loop-i
 returns c =

@@ -8,9 +8,6 @@ use Rattle.place.specs.Put.{then, put_same}
 use Rattle.row_text.proofs.lines.put_ceiling.Statement.{statement}
 use Rattle.row_text.proofs.lines.put_ceiling.Tie as tie
 
-slice_aggregate_put_bytes : tie.Need-slice-aggregate-put-bytes
-slice_aggregate_put_bytes c = omega arith
-
 put_bytes_requires : tie.Need-put_bytes-next-requires
 put_bytes_requires c κs = omega arith
 
@@ -33,4 +30,4 @@ returns c =
 pub put_ceiling_spec : {M : Type 1} → statement M
 put_ceiling_spec =
     tie.close
-    (tie.spec slice_aggregate_put_bytes put_bytes_requires put_signed_requires same_length returns)
+    (tie.spec put_bytes_requires put_signed_requires same_length returns)

@@ -11,14 +11,8 @@ use Rattle.place.specs.Put.{then, put_same}
 use Rattle.row_text.proofs.lines.put_frame_line.Statement.{statement}
 use Rattle.row_text.proofs.lines.put_frame_line.Tie as tie
 
-slice_aggregate_put_named : tie.Need-slice-aggregate-put-named
-slice_aggregate_put_named c = omega arith
-
 put_named_requires : tie.Need-put_named-a-requires
 put_named_requires c κs = omega arith
-
-slice_aggregate_put_named_2 : tie.Need-slice-aggregate-put-named-2
-slice_aggregate_put_named_2 c = omega arith
 
 put_named_requires_2 : tie.Need-put_named-b-requires
 put_named_requires_2 c κs = omega arith
@@ -49,9 +43,7 @@ pub put_frame_line_spec : {M : Type 1} → statement M
 put_frame_line_spec =
     tie.close
     (tie.spec
-    slice_aggregate_put_named
     put_named_requires
-    slice_aggregate_put_named_2
     put_named_requires_2
     put_ceiling_requires
     put_byte_requires

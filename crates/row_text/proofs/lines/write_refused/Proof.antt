@@ -5,9 +5,6 @@ use Rattle.place.specs.Put.{then, whole}
 use Rattle.row_text.proofs.lines.write_refused.Statement.{statement}
 use Rattle.row_text.proofs.lines.write_refused.Tie as tie
 
-slice_aggregate_put_named : tie.Need-slice-aggregate-put-named
-slice_aggregate_put_named c = omega arith
-
 put_named_requires : tie.Need-put_named-next-requires
 put_named_requires c κs = omega arith
 
@@ -27,4 +24,4 @@ returns c =
 pub write_refused_spec : {M : Type 1} → statement M
 write_refused_spec =
     tie.close
-    (tie.spec slice_aggregate_put_named put_named_requires put_byte_requires same_length returns)
+    (tie.spec put_named_requires put_byte_requires same_length returns)

@@ -79,10 +79,10 @@ part_put_row_end c = omega (arith, (bits_there c.before.before).0)
 sub_put_row_2 : tie.Need-slice_bounds-put_row-count-in-loop-rank invariant-loop-rank decreases-loop-rank
 sub_put_row_2 c = omega arith
 
-part_put_row_start_2 : tie.Need-slice_bounds-put_row-start invariant-loop-rank decreases-loop-rank
+part_put_row_start_2 : tie.Need-slice_bounds-put_row-start-in-loop-rank invariant-loop-rank decreases-loop-rank
 part_put_row_start_2 c = omega arith
 
-part_put_row_end_2 : tie.Need-slice_bounds-put_row-end invariant-loop-rank decreases-loop-rank
+part_put_row_end_2 : tie.Need-slice_bounds-put_row-end-in-loop-rank invariant-loop-rank decreases-loop-rank
 part_put_row_end_2 c = omega (arith, (bits_there c.before.before.before).1)
 
 put_row_requires : tie.Need-put_row-next-requires invariant-loop-rank decreases-loop-rank
@@ -103,7 +103,7 @@ loop_again c =
     let a = l.before.before.before.before.args in
     let rank = l.loop-rank.rank in
     let from = l.loop-rank.from in
-    let score = to_z-of_z w32 (get_or a.scores.now rank (pos 0)) (record { sfits = v.score.given }) in
+    let score = to_z-of_z w32 (get_or a.scores.now rank (pos 0)) (record { sfits = v.score-1.given }) in
     let long : from + a.n - from ≡ a.n = omega arith in
     let lines = row_turn a.n a.rows rank from a.inputs.now a.words.now a.scores.now t.loop-rank-test.true in (
       omega arith,

@@ -77,8 +77,8 @@ returns c =
     let s = (start t).args in
     let back = t.before.before.before.before.trace_back-q in
     let at : ℕ = s.kept + t.times.result in
-    row_copied s.l s.n s.seen s.held s.i s.past s.kept s.r back.result s.g.now s.row.now back.new.0
-    (start t).requires.0 back.ensures at t.before.if-q-held.true (place t) (at + s.seen - at) (omega arith) c.before.before.copy.new.1.0 c.before.before.copy.ensures
+    row_copied s.l s.n s.seen s.held s.i s.past s.kept s.r back.result s.g.now s.row.now back.new.row
+    (start t).requires.0 back.ensures at t.before.if-q-held.true (place t) (at + s.seen - at) (omega arith) c.before.before.copy.new.to c.before.before.copy.ensures
 
 -- ---- it has none: it is read back whole
 times_requires_2 : tie.Need-times-before-requires
@@ -109,8 +109,8 @@ returns_2 c =
     let a = s.args in
     let back = b.trace_back-q in
     let all = c.before.before.trace_back in
-    row_read a.l a.n a.seen a.held a.i a.past a.kept a.r back.result a.g.now a.row.now back.new.0 s.requires.0 back.ensures
-    all.result all.new.0 all.ensures
+    row_read a.l a.n a.seen a.held a.i a.past a.kept a.r back.result a.g.now a.row.now back.new.row s.requires.0 back.ensures
+    all.result all.new.row all.ensures
 
 pub renew_row_spec : {M : Type 1} → statement M
 renew_row_spec =

@@ -28,10 +28,10 @@ abbrev Scored : Type 0
 Scored = lts.After-score_of (fill-scores-reads.Asked, fill-scores-reads.Learnt, score-of-reads.Asked, score-of-reads.Learnt) reads.Pre reads.Post invariant-loop-r decreases-loop-r
 
 abbrev start : Scored → tie.Start invariant-loop-r decreases-loop-r
-start c = c.before.before.before.before.before.before.before
+start c = c.before.before.before.before.before.before.before.before
 
 inside : (c : Scored) → c.before.before.before.loop-r.r < length c.before.before.before.before.before.fill_scores.new.scores
-inside c = omega (arith, (start c).requires.room, c.before.before.before.before.before.fill_scores.auto.0, c.before.before.loop-r-test.true)
+inside c = omega (arith, (start c).requires.room, c.before.before.before.before.before.fill_scores.auto.scores, c.before.before.loop-r-test.true)
 
 fill_scores_requires : tie.Need-fill_scores-requires invariant-loop-r decreases-loop-r
 fill_scores_requires c κs = search rules

@@ -68,10 +68,10 @@ add_put_word_2 c = omega (arith, inside c.before)
 sub_put_word_2 : tie.Need-slice_bounds-put_word-count-in-loop-r invariant-loop-r decreases-loop-r
 sub_put_word_2 c = omega arith
 
-part_put_word_start_2 : tie.Need-slice_bounds-put_word-start invariant-loop-r decreases-loop-r
+part_put_word_start_2 : tie.Need-slice_bounds-put_word-start-in-loop-r invariant-loop-r decreases-loop-r
 part_put_word_start_2 c = omega arith
 
-part_put_word_end_2 : tie.Need-slice_bounds-put_word-end invariant-loop-r decreases-loop-r
+part_put_word_end_2 : tie.Need-slice_bounds-put_word-end-in-loop-r invariant-loop-r decreases-loop-r
 part_put_word_end_2 c = omega (arith, input c.before)
 
 put_word_requires : tie.Need-put_word-requires invariant-loop-r decreases-loop-r

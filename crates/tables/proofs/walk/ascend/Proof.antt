@@ -134,7 +134,7 @@ loop_again c =
     climb_more s.args.arikan s.args.deep s.args.l s.args.h s.args.count s.args.n s.args.e s.args.w
     s.args.x s.args.size s.args.t.now s.args.b.now s.args.slots.now s.requires.0 l.d
     l.v l.p l.s l.t l.slots l.invariant k.loop-d-test.true
-    f.after_odd_bit.result u.rise.new.t u.rise.new.1.1.0 f.after_odd_bit.ensures
+    f.after_odd_bit.result u.rise.new.t u.rise.new.slots f.after_odd_bit.ensures
     u.rise.ensures.0 u.rise.ensures.1
 
 same_length : tie.Need-shape_of-t invariant-loop-d decreases-loop-d

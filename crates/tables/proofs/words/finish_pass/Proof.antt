@@ -4,7 +4,6 @@ use mathlib.Core.List.{List}
 use Prim.Native.Nat.{ℕ, ◌+◌, ◌-◌, ◌*◌, ◌≤◌, ◌<◌}
 use native.Mathlib.Omega.{arith}
 use borrow.Author.Rules.{rules}
-use borrow.Author.Tests.{not-true}
 use Rattle.windows.specs.Op.{source}
 use Rattle.tables.specs.Tab.{WroteRows, finish_f}
 use Rattle.tables.proofs.Passes.{finished_already}
@@ -21,7 +20,7 @@ decreases-loop-i t₀ dst w left arikan i₀ t i = w - i
 returns : tie.Need-returns-then-left-gt3 invariant-loop-i decreases-loop-i
 returns c =
     let s = c.before.before.before in
-    let h : s.args.arikan ≡ false = not-true s.args.arikan c.before.if-not-arikan.true in
+    let h : s.args.arikan ≡ false = c.before.if-not-arikan.true in
     let p : 3 < s.args.left = search rules in
     rw h (finished_already s.args.left s.args.dst s.args.w s.args.t.now p)
 
