@@ -4,16 +4,16 @@ use Rattle.job.specs.Calls.{same_job}
 use Rattle.job.proofs.fields_of.Statement.{statement}
 use Rattle.job.proofs.fields_of.Tie as tie
 
-is_arikan_requires : tie.Need-is-arikan-requires
+is_arikan_requires : tie.Need-is_arikan-arikan-requires
 is_arikan_requires c κs = search rules
 
-list_size_requires : tie.Need-list-size-requires
+list_size_requires : tie.Need-list_size-l-requires
 list_size_requires c κs = search rules
 
-stop_position_requires : tie.Need-stop-position-requires
+stop_position_requires : tie.Need-stop_position-p-requires
 stop_position_requires c κs = search rules
 
-frame_number_requires : tie.Need-frame-number-requires
+frame_number_requires : tie.Need-frame_number-frame-requires
 frame_number_requires c κs = search rules
 
 returns : tie.Need-returns
@@ -23,7 +23,7 @@ returns c =
     let t = l.before in
     let s = t.before.before in
     let w = s.requires in
-    same_job w.m_is (t.is-arikan.ensures s.args.bytes.now w) l.list-size.ensures p.stop-position.ensures c.frame-number.ensures w.count_is
+    same_job w.m_is (t.is_arikan-arikan.ensures s.args.bytes.now w) l.list_size-l.ensures p.stop_position-p.ensures c.frame_number-frame.ensures w.count_is
 
 pub fields_of_spec : {M : Type 1} → statement M
 fields_of_spec =

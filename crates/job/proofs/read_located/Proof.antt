@@ -8,67 +8,67 @@ use Rattle.job.specs.Calls.{AcceptedRecord, accepted_record, shape_passed, same_
 use Rattle.job.proofs.read_located.Statement.{statement}
 use Rattle.job.proofs.read_located.Tie as tie
 
-abbrev start : tie.After-field-refusal → tie.Start
+abbrev start : tie.After-field_refusal-refusal → tie.Start
 start c = c.before.before.before.before
 
 -- the number is that of the record
-number : (c : tie.After-field-refusal) → let a = (start c).args in
-    c.field-refusal.result ≡ read_refusal a.bytes.now (length a.map.now) (length a.soft.now) (length a.pairs.now)
+number : (c : tie.After-field_refusal-refusal) → let a = (start c).args in
+    c.field_refusal-refusal.result ≡ read_refusal a.bytes.now (length a.map.now) (length a.soft.now) (length a.pairs.now)
 number c =
     let a = (start c).args in
     shape_passed a.bytes.now (length a.map.now) (length a.soft.now) (length a.pairs.now) (start c).requires.1
-    c.field-refusal.result c.field-refusal.ensures
+    c.field_refusal-refusal.result c.field_refusal-refusal.ensures
 
-field_refusal_requires : tie.Need-field-refusal-requires
+field_refusal_requires : tie.Need-field_refusal-refusal-requires
 field_refusal_requires c κs = search rules
 
-returns : tie.Need-returns
+returns : tie.Need-returns-then-refusal-ne0
 returns c =
     let r = c.before in
     let a = (start r).args in
-    read_refused a.bytes.now a.map.now a.soft.now a.pairs.now r.field-refusal.result (number r) c.if1.true
+    read_refused a.bytes.now a.map.now a.soft.now a.pairs.now r.field_refusal-refusal.result (number r) c.if-refusal-ne0.true
 
 -- past the tests: nothing was found, so the record is good and the slices have room for it
-passed : (c : tie.Else1) → let a = (start c.before).args in
+passed : (c : tie.Else-refusal-ne0) → let a = (start c.before).args in
     0 ≡ read_refusal a.bytes.now (length a.map.now) (length a.soft.now) (length a.pairs.now)
-passed c = sym c.if1.false ∙ number c.before
+passed c = sym c.if-refusal-ne0.false ∙ number c.before
 
-known : (c : tie.Else1) → let a = (start c.before).args in
+known : (c : tie.Else-refusal-ne0) → let a = (start c.before).args in
     AcceptedRecord a.bytes.now (length a.map.now) (length a.soft.now) (length a.pairs.now)
 known c =
     let a = (start c.before).args in
     accepted_record a.bytes.now (length a.map.now) (length a.soft.now) (length a.pairs.now) (passed c)
 
-write_code_requires : tie.Need-write-code-requires
+write_code_requires : tie.Need-write_code-requires
 write_code_requires c κs =
     let e = c.before.before in
     ((start e.before).requires.0, (known e).map_room, (known e).pair_room)
 
-write_soft_requires : tie.Need-write-soft-requires
+write_soft_requires : tie.Need-write_soft-requires
 write_soft_requires c κs =
     let e = c.before.before.before.before.before.before.before.before in
     ((start e.before).requires.0, (known e).soft_room, (known e).range)
 
-fields_of_requires : tie.Need-fields-of-requires
+fields_of_requires : tie.Need-fields_of-requires
 fields_of_requires c κs = search rules
 
-same_length : tie.Need-same-length
+same_length : tie.Need-shape_of-map
 same_length c = search rules
 
-same_length_2 : tie.Need-same-length-2
+same_length_2 : tie.Need-shape_of-soft
 same_length_2 c = search rules
 
-same_length_3 : tie.Need-same-length-3
+same_length_3 : tie.Need-shape_of-pairs
 same_length_3 c = search rules
 
-returns_2 : tie.Need-returns-2
+returns_2 : tie.Need-returns
 unfolding read_served
 returns_2 c =
     let y = c.before.before in
     let w = y.before.before.before.before.before.before in
     let e = w.before.before.before in
     let a = (start e.before).args in
-    same_reading c.fields-of.ensures w.write-code.ensures.0 y.write-soft.ensures w.write-code.ensures.1
+    same_reading c.fields_of.ensures w.write_code.ensures.0 y.write_soft.ensures w.write_code.ensures.1
     ∙ read_served_lem a.bytes.now a.map.now a.soft.now a.pairs.now (passed e)
 
 pub read_located_spec : {M : Type 1} → statement M

@@ -16,7 +16,7 @@ use Rattle.laws.specs.WriteCall.{Writable, given_faults, given_none, given_refus
 use Rattle.job_writer.proofs.write_job.Statement.{statement}
 use Rattle.job_writer.proofs.write_job.Tie as tie
 
-abbrev start : tie.After-block-refusal → tie.Start
+abbrev start : tie.After-block_refusal-refusal → tie.Start
 start c = c.before.before.before.before
 
 abbrev given_by : tie.Start → Bool → Fields
@@ -26,60 +26,60 @@ abbrev given : tie.Start → Fields
 given s = given_by s s.args.arikan
 
 -- past the tests of the fields, whichever the transform
-passed : (c : tie.Else1) (a : Bool) → 0 ≡ first (given_faults (given_by (start c.before) a))
-passed c a = sym c.if1.false ∙ c.before.block_refusal.ensures a
+passed : (c : tie.Else-refusal-ne0) (a : Bool) → 0 ≡ first (given_faults (given_by (start c.before) a))
+passed c a = sym c.if-refusal-ne0.false ∙ c.before.block_refusal-refusal.ensures a
 
-writable : (c : tie.Else1) (a : Bool) → Writable (given_by (start c.before) a)
+writable : (c : tie.Else-refusal-ne0) (a : Bool) → Writable (given_by (start c.before) a)
 writable c a = given_none (given_by (start c.before) a) (passed c a)
 
 -- the length that was computed
-measured : (c : tie.After-record-length) → let s = start c.before.before in c.record-length.result ≡ length (written_record (given s))
+measured : (c : tie.After-record_length-k) → let s = start c.before.before in c.record_length-k.result ≡ length (written_record (given s))
 measured c =
     let s = start c.before.before in
-    c.record-length.ensures.0 s.args.arikan s.args.soft.now (writable c.before s.args.arikan).values
+    c.record_length-k.ensures.0 s.args.arikan s.args.soft.now (writable c.before s.args.arikan).values
 
-block_refusal_requires : tie.Need-block-refusal-requires
+block_refusal_requires : tie.Need-block_refusal-refusal-requires
 block_refusal_requires c κs = search rules
 
-returns : tie.Need-returns
+returns : tie.Need-returns-then-refusal-ne0
 returns c =
     let r = c.before in
     let s = start r in
     let out = s.args.out.now in
-    let k = r.block_refusal.result in
-    write_refused (given s) out k (given_refused (given s) (length out) k (r.block_refusal.ensures s.args.arikan) c.if1.true) c.if1.true
+    let k = r.block_refusal-refusal.result in
+    write_refused (given s) out k (given_refused (given s) (length out) k (r.block_refusal-refusal.ensures s.args.arikan) c.if-refusal-ne0.true) c.if-refusal-ne0.true
 
-record_length_requires : tie.Need-record-length-requires
+record_length_requires : tie.Need-record_length-k-requires
 record_length_requires c κs = λ a. (writable c a).accepts
 
-returns_2 : tie.Need-returns-2
+returns_2 : tie.Need-returns-then-out-k
 returns_2 c =
     let l = c.before in
     let e = l.before in
     let s = start e.before in
     let out = s.args.out.now in
-    let short : length out < length (written_record (given s)) = omega (arith, measured l, c.if2.true) in
+    let short : length out < length (written_record (given s)) = omega (arith, measured l, c.if-out-k.true) in
     write_refused (given s) out 10 (room_refused (given s) (length out) (passed e s.args.arikan) short) (λ q. omega arith)
 
-fits : (c : tie.Else2) → let s = start c.before.before.before in length (written_record (given s)) ≤ length s.args.out.now
-fits c = omega (arith, measured c.before, c.if2.false)
+fits : (c : tie.Else-out-k) → let s = start c.before.before.before in length (written_record (given s)) ≤ length s.args.out.now
+fits c = omega (arith, measured c.before, c.if-out-k.false)
 
-write_record_requires : tie.Need-write-record-requires
+write_record_requires : tie.Need-write_record-requires
 write_record_requires c κs =
     let l = c.before in
     let e = l.before.before in
     (writable e (start e.before).args.arikan, fits l)
 
-fill_bytes_requires : tie.Need-fill-bytes-requires
+fill_bytes_requires : tie.Need-fill_bytes-requires
 fill_bytes_requires c κs = search rules
 
-cast_t19 : tie.Need-overflow-cast-t19
+cast_t19 : tie.Need-overflow_cast-result
 cast_t19 c = search rules
 
-same_length : tie.Need-same-length
+same_length : tie.Need-shape_of-out
 same_length c = search rules
 
-returns_3 : tie.Need-returns-3
+returns_3 : tie.Need-returns
 unfolding write_served
 returns_3 c =
     let fill = c.before.before in
@@ -91,8 +91,8 @@ returns_3 c =
     let f = given s in
     let out = s.args.out.now in
     let n = measured m in
-    let begun = whole put.write-record.ensures (omega (arith, put.write-record.ensures.place, fits l)) in
-    let bytes = fill.fill-bytes.ensures ∙ filled_front 0 (written_record f) out _ m.record-length.result begun.bytes n (fits l) in
+    let begun = whole put.write_record.ensures (omega (arith, put.write_record.ensures.place, fits l)) in
+    let bytes = fill.fill_bytes.ensures ∙ filled_front 0 (written_record f) out _ m.record_length-k.result begun.bytes n (fits l) in
     ap₂ (λ (i : ℕ) (o : List ℕ). writing (long i) o) n bytes
     ∙ write_served_lem f out (write_accepted f (length out) (writable e s.args.arikan) (fits l))
 

@@ -12,13 +12,13 @@ use Rattle.result.proofs.fields_of.Tie as tie
 same_answer : {m m' k k' f f' : ℕ} {z z' : ℤ} → m ≡ m' → k ≡ k' → f ≡ f' → z ≡ z' → result_says m k f z ≡ result_says m' k' f' z'
 same_answer a b c d = rw (a, b, c, d)
 
-frame_number_requires : tie.Need-frame-number-requires
+frame_number_requires : tie.Need-frame_number-frame-requires
 frame_number_requires c κs = search rules
 
-ceiling_of_requires : tie.Need-ceiling-of-requires
+ceiling_of_requires : tie.Need-ceiling_of-ceiling-requires
 ceiling_of_requires c κs = search rules
 
-cast_t5 : tie.Need-overflow-cast-t5
+cast_t5 : tie.Need-overflow_cast-result
 cast_t5 c = search rules
 
 returns : tie.Need-returns
@@ -26,8 +26,8 @@ returns c =
     let v = c.before in
     let f = v.before in
     let s = f.before.before in
-    same_answer s.requires.m_is s.requires.rows_are f.frame-number.ensures
-    (to_z-of_z w32 v.ceiling-of.result (record { sfits = v.ceiling-of.type-inv }) ∙ v.ceiling-of.ensures)
+    same_answer s.requires.m_is s.requires.rows_are f.frame_number-frame.ensures
+    (to_z-of_z w32 v.ceiling_of-ceiling.result (record { sfits = v.ceiling_of-ceiling.type_inv }) ∙ v.ceiling_of-ceiling.ensures)
 
 pub fields_of_spec : {M : Type 1} → statement M
 fields_of_spec = tie.close (tie.spec frame_number_requires ceiling_of_requires cast_t5 returns)

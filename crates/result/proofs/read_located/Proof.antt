@@ -15,61 +15,61 @@ use Rattle.result.proofs.read_located.Tie as tie
 same_reading : {a b : ResultAnswer} {y z : List ℤ} {u v : List ℕ} → a ≡ b → y ≡ z → u ≡ v → customer_reading a y u ≡ customer_reading b z v
 same_reading p q r = rw (p, q, r)
 
-abbrev start : tie.After-customer-refusal → tie.Start
+abbrev start : tie.After-customer_refusal-refusal → tie.Start
 start c = c.before.before.before
 
 -- the number is that of the record
-number : (c : tie.After-customer-refusal) → let a = (start c).args in
-    c.customer-refusal.result ≡ customer_refusal a.bytes.now (length a.scores.now) (length a.inputs.now)
+number : (c : tie.After-customer_refusal-refusal) → let a = (start c).args in
+    c.customer_refusal-refusal.result ≡ customer_refusal a.bytes.now (length a.scores.now) (length a.inputs.now)
 number c =
     let a = (start c).args in
-    customer_behind a.bytes.now (length a.scores.now) (length a.inputs.now) (start c).requires.1 c.customer-refusal.result c.customer-refusal.ensures
+    customer_behind a.bytes.now (length a.scores.now) (length a.inputs.now) (start c).requires.1 c.customer_refusal-refusal.result c.customer_refusal-refusal.ensures
 
-customer_refusal_requires : tie.Need-customer-refusal-requires
+customer_refusal_requires : tie.Need-customer_refusal-refusal-requires
 customer_refusal_requires c κs = search rules
 
-returns : tie.Need-returns
+returns : tie.Need-returns-then-refusal-ne0
 returns c =
     let r = c.before in
     let a = (start r).args in
-    customer_refused a.bytes.now a.scores.now a.inputs.now r.customer-refusal.result (number r) c.if1.true
+    customer_refused a.bytes.now a.scores.now a.inputs.now r.customer_refusal-refusal.result (number r) c.if-refusal-ne0.true
 
 -- past the tests: nothing was found, so the record is good and the slices have room for it
-passed : (c : tie.Else1) → let a = (start c.before).args in 0 ≡ customer_refusal a.bytes.now (length a.scores.now) (length a.inputs.now)
-passed c = sym c.if1.false ∙ number c.before
+passed : (c : tie.Else-refusal-ne0) → let a = (start c.before).args in 0 ≡ customer_refusal a.bytes.now (length a.scores.now) (length a.inputs.now)
+passed c = sym c.if-refusal-ne0.false ∙ number c.before
 
-known : (c : tie.Else1) → let a = (start c.before).args in CustomerAccepts a.bytes.now (length a.scores.now) (length a.inputs.now)
+known : (c : tie.Else-refusal-ne0) → let a = (start c.before).args in CustomerAccepts a.bytes.now (length a.scores.now) (length a.inputs.now)
 known c =
     let a = (start c.before).args in
     customer_accepts a.bytes.now (length a.scores.now) (length a.inputs.now) (passed c)
 
-write_scores_requires : tie.Need-write-scores-requires
+write_scores_requires : tie.Need-write_scores-requires
 write_scores_requires c κs =
     let e = c.before in
     ((start e.before).requires.0, (known e).as_operator.score_room)
 
-write_inputs_requires : tie.Need-write-inputs-requires
+write_inputs_requires : tie.Need-write_inputs-requires
 write_inputs_requires c κs =
     let e = c.before.before.before.before in
     ((start e.before).requires.0, (known e).input_room)
 
-fields_of_requires : tie.Need-fields-of-requires
+fields_of_requires : tie.Need-fields_of-requires
 fields_of_requires c κs = search rules
 
-same_length : tie.Need-same-length
+same_length : tie.Need-shape_of-scores
 same_length c = search rules
 
-same_length_2 : tie.Need-same-length-2
+same_length_2 : tie.Need-shape_of-inputs
 same_length_2 c = search rules
 
-returns_2 : tie.Need-returns-2
+returns_2 : tie.Need-returns
 unfolding customer_served
 returns_2 c =
     let y = c.before.before.before in
     let w = y.before.before.before in
     let e = w.before.before in
     let a = (start e.before).args in
-    same_reading c.fields-of.ensures w.write-scores.ensures y.write-inputs.ensures
+    same_reading c.fields_of.ensures w.write_scores.ensures y.write_inputs.ensures
     ∙ customer_served_lem a.bytes.now a.scores.now a.inputs.now (passed e)
 
 pub read_located_spec : {M : Type 1} → statement M

@@ -8,41 +8,41 @@ use Rattle.laws.specs.ResultReading.{customer_shape, customer_refused}
 use Rattle.result.proofs.read_result.Statement.{statement}
 use Rattle.result.proofs.read_result.Tie as tie
 
-abbrev start : tie.After-locate → tie.Start
+abbrev start : tie.After-locate-located → tie.Start
 start c = c.before.before.before
 
-locate_requires : tie.Need-locate-requires
+locate_requires : tie.Need-locate-located-requires
 locate_requires c κs = search rules
 
-enum_known_located : tie.Need-enum-known-located
+enum_known_located : tie.Need-enum_known-located
 enum_known_located c = search rules
 
-read_located_requires : tie.Need-read-located-requires
+read_located_requires : tie.Need-read_located-requires
 read_located_requires c κs =
     let k = c.before.before.before in
     let l = k.before.before in
     let b = (start l).args.bytes.now in
-    subst (Found b (result_shape_faults b)) k.located.given.1 l.locate.ensures
+    subst (Found b (result_shape_faults b)) k.located.given.1 l.locate-located.ensures
 
-enum_known_located_2 : tie.Need-enum-known-located-2
+enum_known_located_2 : tie.Need-enum_known-located-in-Refused-1
 enum_known_located_2 c = search rules
 
-same_length : tie.Need-same-length
+same_length : tie.Need-shape_of-scores
 same_length c = search rules
 
-same_length_2 : tie.Need-same-length-2
+same_length_2 : tie.Need-shape_of-inputs
 same_length_2 c = search rules
 
-returns : tie.Need-returns
+returns : tie.Need-returns-in-At
 returns c = search rules
 
-returns_2 : tie.Need-returns-2
+returns_2 : tie.Need-returns-in-Refused
 returns_2 c =
     let k = c.before in
     let l = k.before.before in
     let a = (start l).args in
     let b = a.bytes.now in
-    let f = subst (Found b (result_shape_faults b)) k.located2.given.1 l.locate.ensures in
+    let f = subst (Found b (result_shape_faults b)) k.located-in-Refused-1.given.1 l.locate-located.ensures in
     customer_refused b a.scores.now a.inputs.now _ (customer_shape b (length a.scores.now) (length a.inputs.now) _ f.0 f.1) f.1
 
 pub read_result_spec : {M : Type 1} → statement M

@@ -17,26 +17,26 @@ map_fits c = omega (arith, c.requires.0.n_is, c.requires.1)
 pairs_fit : (c : tie.Start) → let at = c.args.at in at.soft - at.pairs ≤ length c.args.pairs.now
 pairs_fit c = omega (arith, pairs_span c.requires.0, c.requires.2)
 
-add_map_end : tie.Need-overflow-add-map-end
+add_map_end : tie.Need-overflow_add-map_end
 add_map_end c = search rules
 
-add_map_end_2 : tie.Need-overflow-add-map-end-2
+add_map_end_2 : tie.Need-overflow_add-map_end-2
 add_map_end_2 c = search rules
 
-write_part_requires : tie.Need-write-part-requires
+write_part_requires : tie.Need-write_part-requires
 write_part_requires c κs =
     let s = c.before.before.before.before.before.before in
     (omega arith, map_within s.requires.0, map_fits s)
 
-write_part_requires_2 : tie.Need-write-part-requires-2
+write_part_requires_2 : tie.Need-write_part-requires-2
 write_part_requires_2 c κs =
     let s = c.before.before.before.before.before.before.before.before.before.before in
     (pairs_first s.requires.0, pairs_within s.requires.0, pairs_fit s)
 
-same_length : tie.Need-same-length
+same_length : tie.Need-shape_of-map
 same_length c = search rules
 
-same_length_2 : tie.Need-same-length-2
+same_length_2 : tie.Need-shape_of-pairs
 same_length_2 c = search rules
 
 returns : tie.Need-returns
@@ -46,8 +46,8 @@ returns c =
     let s = p.before.before.before.before.before.before.before in
     let a = s.args in
     let w = s.requires.0 in (
-      p.write-part.ensures ∙ ap (padded 0 (length a.map.now)) (map_part w),
-      q.write-part2.ensures ∙ ap (padded 0 (length a.pairs.now)) (pairs_part w),
+      p.write_part.ensures ∙ ap (padded 0 (length a.map.now)) (map_part w),
+      q.write_part-2.ensures ∙ ap (padded 0 (length a.pairs.now)) (pairs_part w),
     )
 
 pub write_code_spec : {M : Type 1} → statement M

@@ -19,22 +19,22 @@ long c =
     let a = c.args in
     length-take-le (a.to - a.from) (drop a.from a.bytes.now) (omega (arith, c.requires.1, length-drop a.from a.bytes.now))
 
-sub_k : tie.Need-overflow-sub-k
+sub_k : tie.Need-overflow_sub-k
 sub_k c = search rules
 
-sub_copy : tie.Need-overflow-sub-copy
+sub_copy : tie.Need-slice_bounds-copy-count
 sub_copy c = search rules
 
-part_copy_start : tie.Need-slice-bounds-copy-start
+part_copy_start : tie.Need-slice_bounds-copy-start
 part_copy_start c = search rules
 
-part_copy_end : tie.Need-slice-bounds-copy-end
+part_copy_end : tie.Need-slice_bounds-copy-end
 part_copy_end c = search rules
 
-slice_relend_prefix_copy : tie.Need-slice-relend-prefix-copy
+slice_relend_prefix_copy : tie.Need-slice_bounds-copy-end-2
 slice_relend_prefix_copy c = search rules
 
-slice_aggregate_copy : tie.Need-slice-aggregate-copy
+slice_aggregate_copy : tie.Need-slice_bounds-copy-end-3
 slice_aggregate_copy c = sym (front c.before.before.before.before)
 
 copy_requires : tie.Need-copy-requires
@@ -42,10 +42,10 @@ copy_requires c κs =
     let s = c.before.before.before.before in
     front s ∙ sym (long s)
 
-fill_bytes_requires : tie.Need-fill-bytes-requires
+fill_bytes_requires : tie.Need-fill_bytes-requires
 fill_bytes_requires c κs = search rules
 
-same_length : tie.Need-same-length
+same_length : tie.Need-shape_of-part
 same_length c = search rules
 
 returns : tie.Need-returns
@@ -54,8 +54,8 @@ returns c =
     let s = p.before.before.before.before.before in
     let a = s.args in
     let part = a.part.now in
-    c.before.before.fill-bytes.ensures
-    ∙ filled_behind 0 p.copy.new.1.0 part (a.to - a.from) (p.copy.auto.1.0 ∙ front s) s.requires.2
+    c.before.before.fill_bytes.ensures
+    ∙ filled_behind 0 p.copy.new.to part (a.to - a.from) (p.copy.auto.to ∙ front s) s.requires.2
     ∙ ap (padded 0 (length part)) p.copy.ensures
 
 pub write_part_spec : {M : Type 1} → statement M

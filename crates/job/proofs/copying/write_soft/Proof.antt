@@ -22,13 +22,13 @@ fits c = omega (arith, c.requires.0.n_is, c.requires.1)
 front : (c : tie.Start) → length (take c.args.at.n c.args.soft.now) ≡ c.args.at.n
 front c = length-take-le c.args.at.n c.args.soft.now (fits c)
 
-slice_relend_prefix_copy_soft : tie.Need-slice-relend-prefix-copy-soft
+slice_relend_prefix_copy_soft : tie.Need-slice_bounds-copy_soft-end
 slice_relend_prefix_copy_soft c = search rules
 
-slice_aggregate_copy_soft : tie.Need-slice-aggregate-copy-soft
+slice_aggregate_copy_soft : tie.Need-slice_bounds-copy_soft-end-2
 slice_aggregate_copy_soft c = sym (front c.before.before)
 
-copy_soft_requires : tie.Need-copy-soft-requires
+copy_soft_requires : tie.Need-copy_soft-requires
 copy_soft_requires c κs =
     let s = c.before.before in
     let w = s.requires.0 in (
@@ -37,10 +37,10 @@ copy_soft_requires c κs =
       ap (some out_of_range) (ap₂ (soft_from s.args.bytes.now) w.soft_begins (front s ∙ w.n_is)) ∙ s.requires.2,
     )
 
-fill_soft_requires : tie.Need-fill-soft-requires
+fill_soft_requires : tie.Need-fill_soft-requires
 fill_soft_requires c κs = search rules
 
-same_length : tie.Need-same-length
+same_length : tie.Need-shape_of-soft
 same_length c = search rules
 
 returns : tie.Need-returns
@@ -49,9 +49,9 @@ returns c =
     let s = p.before.before.before in
     let w = s.requires.0 in
     let soft = s.args.soft.now in
-    c.before.fill-soft.ensures
-    ∙ filled_behind (pos 0) p.copy-soft.new.1.1.0 soft s.args.at.n (p.copy-soft.auto.1.1.0 ∙ front s) (fits s)
-    ∙ ap (padded (pos 0) (length soft)) (p.copy-soft.ensures ∙ ap taken (ap₂ (soft_from s.args.bytes.now) w.soft_begins (front s ∙ w.n_is)))
+    c.before.fill_soft.ensures
+    ∙ filled_behind (pos 0) p.copy_soft.new.soft soft s.args.at.n (p.copy_soft.auto.soft ∙ front s) (fits s)
+    ∙ ap (padded (pos 0) (length soft)) (p.copy_soft.ensures ∙ ap taken (ap₂ (soft_from s.args.bytes.now) w.soft_begins (front s ∙ w.n_is)))
 
 pub write_soft_spec : {M : Type 1} → statement M
 write_soft_spec =

@@ -17,22 +17,22 @@ told : (m l p f k : ℕ) (a : Bool)
 told m l p f k true = refl
 told m l p f k false = refl
 
-enum_known_job : tie.Need-enum-known-job
+enum_known_job : tie.Need-enum_known-job
 enum_known_job c = search rules
 
-cast_bit : tie.Need-overflow-cast-bit
+cast_bit : tie.Need-overflow_cast-bit
 cast_bit c = search rules
 
-enum_known_job_2 : tie.Need-enum-known-job-2
+enum_known_job_2 : tie.Need-enum_known-job-in-Refused-1
 enum_known_job_2 c = search rules
 
-returns : tie.Need-returns
+returns : tie.Need-returns-in-Fields
 returns c =
-    let g = c.before.job.given in
+    let g = c.before.job-1.given in
     told _ _ _ _ _ g.0.1.0 ∙ sym (ap (λ (j : Job). fields_of (job_of j)) g.1)
 
-returns_2 : tie.Need-returns-2
-returns_2 c = sym (ap (λ (j : Job). fields_of (job_of j)) c.before.job2.given.1)
+returns_2 : tie.Need-returns-in-Refused
+returns_2 c = sym (ap (λ (j : Job). fields_of (job_of j)) c.before.job-in-Refused-1.given.1)
 
 pub fields_for_host_spec : {M : Type 1} → statement M
 fields_for_host_spec = tie.close (tie.spec enum_known_job cast_bit enum_known_job_2 returns returns_2)

@@ -6,25 +6,25 @@ use Rattle.job.specs.declared.host.JobFields.{JobFields}
 use Rattle.job.proofs.host.read_job_fields.Statement.{statement}
 use Rattle.job.proofs.host.read_job_fields.Tie as tie
 
-read_job_requires : tie.Need-read-job-requires
+read_job_requires : tie.Need-read_job-job-requires
 read_job_requires c κs = search rules
 
-fields_for_host_requires : tie.Need-fields-for-host-requires
+fields_for_host_requires : tie.Need-fields_for_host-requires
 fields_for_host_requires c κs = search rules
 
-same_length : tie.Need-same-length
+same_length : tie.Need-shape_of-map
 same_length c = search rules
 
-same_length_2 : tie.Need-same-length-2
+same_length_2 : tie.Need-shape_of-soft
 same_length_2 c = search rules
 
-same_length_3 : tie.Need-same-length-3
+same_length_3 : tie.Need-shape_of-pairs
 same_length_3 c = search rules
 
 returns : tie.Need-returns
 returns c =
-    let r = c.before.before.before.before.before.before.read-job in
-    ap (λ (a : JobFields). host_reading a r.new.1.0 r.new.1.1.0 r.new.1.1.1.0) c.fields-for-host.ensures ∙ ap for_host r.ensures
+    let r = c.before.before.before.before.before.before.read_job-job in
+    ap (λ (a : JobFields). host_reading a r.new.soft r.new.1.1.0 r.new.1.1.1.0) c.fields_for_host.ensures ∙ ap for_host r.ensures
 
 pub read_job_fields_spec : {M : Type 1} → statement M
 read_job_fields_spec =

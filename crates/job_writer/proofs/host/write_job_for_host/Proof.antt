@@ -11,17 +11,17 @@ use Rattle.job_writer.proofs.host.write_job_for_host.Tie as tie
 answered : {a b : RecordLength} {out : List ℕ} → a ≡ b → host_writing a out ≡ host_writing b out
 answered {out = out} e = ap (λ (a : RecordLength). host_writing a out) e
 
-write_job_requires : tie.Need-write-job-requires
+write_job_requires : tie.Need-write_job-answer-requires
 write_job_requires c κs = search rules
 
-length_for_host_requires : tie.Need-length-for-host-requires
+length_for_host_requires : tie.Need-length_for_host-requires
 length_for_host_requires c κs = search rules
 
-same_length : tie.Need-same-length
+same_length : tie.Need-shape_of-out
 same_length c = search rules
 
 returns : tie.Need-returns
-returns c = answered c.length-for-host.ensures ∙ ap length_for_host c.before.before.before.write-job.ensures
+returns c = answered c.length_for_host.ensures ∙ ap length_for_host c.before.before.before.write_job-answer.ensures
 
 pub write_job_for_host_spec : {M : Type 1} → statement M
 write_job_for_host_spec = tie.close (tie.spec write_job_requires length_for_host_requires same_length returns)

@@ -19,59 +19,59 @@ given s a soft = let x = s.args in fields_of (code x.m a x.map.now x.pairs.now) 
 bounds : (s : tie.Start) → let x = s.args in Bounded (code x.m true x.map.now x.pairs.now)
 bounds s = bounded (s.requires true)
 
-abbrev start : tie.After-pair-bit → tie.Start
+abbrev start : tie.After-pair_bit-q → tie.Start
 start c = c.before.before.before.before.before
 
-size_requires : tie.Need-size-requires
+size_requires : tie.Need-size-n-requires
 size_requires c κs = (bounds c.before.before).exponent
 
-cast_option_bits : tie.Need-overflow-cast-option-bits
+cast_option_bits : tie.Need-overflow_cast-n
 cast_option_bits c = omega arith
 
-option_bits_requires : tie.Need-option-bits-requires
+option_bits_requires : tie.Need-option_bits-options-requires
 option_bits_requires c κs = search rules
 
-pair_bit_requires : tie.Need-pair-bit-requires
+pair_bit_requires : tie.Need-pair_bit-q-requires
 pair_bit_requires c κs = search rules
 
-cast_result : tie.Need-overflow-cast-result
+cast_result : tie.Need-overflow_cast-result
 cast_result c = omega arith
 
-add_result : tie.Need-overflow-add-result
+add_result : tie.Need-overflow_add-result
 add_result c = omega arith
 
-add_result_2 : tie.Need-overflow-add-result-2
+add_result_2 : tie.Need-overflow_add-result-2
 add_result_2 c = omega (arith, (bounds (start c)).map, (bounds (start c)).pairs)
 
-cast_result_2 : tie.Need-overflow-cast-result-2
+cast_result_2 : tie.Need-overflow_cast-result-2
 cast_result_2 c = omega arith
 
-mul_result : tie.Need-overflow-mul-result
+mul_result : tie.Need-overflow_mul-result
 mul_result c = omega arith
 
-add_result_3 : tie.Need-overflow-add-result-3
+add_result_3 : tie.Need-overflow_add-result-3
 add_result_3 c = omega (arith, (bounds (start c)).map, (bounds (start c)).pairs)
 
-add_result_4 : tie.Need-overflow-add-result-4
+add_result_4 : tie.Need-overflow_add-result-4
 add_result_4 c = omega (arith, (bounds (start c)).map, (bounds (start c)).pairs)
 
-mul_result_2 : tie.Need-overflow-mul-result-2
+mul_result_2 : tie.Need-overflow_mul-result-2
 mul_result_2 c = omega (arith, (bounds (start c)).map, (bounds (start c)).pairs)
 
-add_result_5 : tie.Need-overflow-add-result-5
+add_result_5 : tie.Need-overflow_add-result-5
 add_result_5 c = omega (arith, (bounds (start c)).map, (bounds (start c)).pairs)
 
 -- the fields that may be left out, over the size that was computed
-options : (c : tie.After-pair-bit) → let x = (start c).args in
-    c.before.option-bits.result ≡ field_bit (unless 4 x.l) + 2 * field_bit (unless (2 ^ x.m) x.p) + 4 * field_bit (unless 0 x.frame)
+options : (c : tie.After-pair_bit-q) → let x = (start c).args in
+    c.before.option_bits-options.result ≡ field_bit (unless 4 x.l) + 2 * field_bit (unless (2 ^ x.m) x.p) + 4 * field_bit (unless 0 x.frame)
 options c =
     let x = (start c).args in
-    c.before.option-bits.ensures.0
-    ∙ ap (λ (n : ℕ). field_bit (unless 4 x.l) + 2 * field_bit (unless n x.p) + 4 * field_bit (unless 0 x.frame)) c.before.before.size.ensures.0
+    c.before.option_bits-options.ensures.0
+    ∙ ap (λ (n : ℕ). field_bit (unless 4 x.l) + 2 * field_bit (unless n x.p) + 4 * field_bit (unless 0 x.frame)) c.before.before.size-n.ensures.0
 
 returns : tie.Need-returns
 returns c = (
-  λ a soft n. omega (arith, options c, c.pair_bit_lem.ensures.0, n, c.before.before.size.ensures.0, written_length (given (start c) a soft)),
+  λ a soft n. omega (arith, options c, c.pair_bit-q.ensures.0, n, c.before.before.size-n.ensures.0, written_length (given (start c) a soft)),
   omega (arith, (bounds (start c)).map, (bounds (start c)).pairs),
 )
 

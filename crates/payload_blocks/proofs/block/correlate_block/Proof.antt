@@ -28,10 +28,10 @@ module _ (s : tie.Start) where
 
   -- the words of the last bits are as long as there are soft values
   wide : All (λ (g : List ℕ). length g ≡ length s.args.soft.now) gs
-  wide = subst (λ (n : ℕ). All (λ (g : List ℕ). length g ≡ n) gs) (sym s.pre.0.soft_long) (generators_words of s.pre.0.lent.accepts s.args.r)
+  wide = subst (λ (n : ℕ). All (λ (g : List ℕ). length g ≡ n) gs) (sym s.requires.0.soft_long) (generators_words of s.requires.0.lent.accepts s.args.r)
 
   cols_are : s.args.cols.now ≡ columns (length s.args.soft.now) gs
-  cols_are = s.pre.0.columns_are ∙ ap (λ (n : ℕ). columns n gs) (sym s.pre.0.soft_long)
+  cols_are = s.requires.0.columns_are ∙ ap (λ (n : ℕ). columns n gs) (sym s.requires.0.soft_long)
 
   cols_long : length s.args.cols.now ≡ length s.args.soft.now
   cols_long = ap length cols_are ∙ length_columns (length s.args.soft.now) gs wide
@@ -42,10 +42,10 @@ module _ (s : tie.Start) where
       (subst (λ (k : ℕ). All (λ (c : ℕ). c < 2 ^ k) (columns (length s.args.soft.now) gs)) (length_generators of s.args.r)
       (columns_below (length s.args.soft.now) gs wide))
 
-put_word_requires : tie.Need-put-word-requires
+put_word_requires : tie.Need-put_word-requires
 put_word_requires c κs = c.before.before.before.before.before.before.before.before.requires.0.lent
 
-abbrev start : tie.After-put-word → tie.Start
+abbrev start : tie.After-put_word → tie.Start
 start c = c.before.before.before.before.before.before.before.before.before
 
 correlate_requires : tie.Need-correlate-requires
@@ -53,21 +53,21 @@ correlate_requires c κs =
     let w = c.before.before.before.before.before.before in
     let s = start w in
     record {
-      bins_long = s.pre.0.bins_long;
-      half = ap (λ (k : ℕ). k / 2) s.pre.0.bins_long;
+      bins_long = s.requires.0.bins_long;
+      half = ap (λ (k : ℕ). k / 2) s.requires.0.bins_long;
       cols_long = cols_long s;
-      word_long = w.put_word.auto.1.1.1.1.1.0 ∙ s.pre.0.lent.word_long ∙ sym s.pre.0.soft_long;
+      word_long = w.put_word.auto.1.1.1.1.1.0 ∙ s.requires.0.lent.word_long ∙ sym s.requires.0.soft_long;
       cols_below = cols_below s;
-      in_range = s.pre.0.in_range;
+      in_range = s.requires.0.in_range;
     }
 
-same_length : tie.Need-same-length
+same_length : tie.Need-shape_of-payload
 same_length c = search rules
 
-same_length_2 : tie.Need-same-length-2
+same_length_2 : tie.Need-shape_of-word
 same_length_2 c = search rules
 
-same_length_3 : tie.Need-same-length-3
+same_length_3 : tie.Need-shape_of-bins
 same_length_3 c = search rules
 
 returns : tie.Need-returns
@@ -80,7 +80,7 @@ returns c =
     d.correlate.ensures (gs s) (length_generators (of s) s.args.r) (wide s) (generators_bits (of s) s.args.r)
     (subst Bits (sym w.put_word.ensures) (bits_encoded (of s) (bits_numeral (payload_size (of s)) s.args.q))) (cols_are s)
     ∙ ap (λ (v : List ℕ). map wrapped (map (correlation y) (spanned v (gs s)))) w.put_word.ensures
-    ∙ ap (map wrapped) (block_correlations (of s) y s.args.r s.args.q s.pre.1 s.pre.2)
+    ∙ ap (map wrapped) (block_correlations (of s) y s.args.r s.args.q s.requires.1 s.requires.2)
 
 pub correlate_block_spec : {M : Type 1} → statement M
 correlate_block_spec =

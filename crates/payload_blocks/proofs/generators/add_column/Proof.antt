@@ -7,70 +7,70 @@ use Rattle.payload_blocks.proofs.Turns.{Raising, raising_none, raising_turn, rai
 use Rattle.payload_blocks.proofs.generators.add_column.Statement.{statement}
 use Rattle.payload_blocks.proofs.generators.add_column.Tie as tie
 
-abbrev invariant-loop : tie.invariant-loop
-invariant-loop cols₀ word h i₀ cols i = Raising h cols₀ word cols i
+abbrev invariant-loop-i : tie.invariant-loop-i
+invariant-loop-i cols₀ word h i₀ cols i = Raising h cols₀ word cols i
 
-abbrev decreases-loop : tie.decreases-loop
-decreases-loop cols₀ word h i₀ cols i = length cols₀ - i
+abbrev decreases-loop-i : tie.decreases-loop-i
+decreases-loop-i cols₀ word h i₀ cols i = length cols₀ - i
 
 -- src/generators.rt:32:5
-loop_holds : tie.Need-loop-init invariant-loop decreases-loop
+loop_holds : tie.Need-loop-i-init invariant-loop-i decreases-loop-i
 loop_holds c = let a = c.before.before.args in raising_none a.h a.cols.now a.word.now
 
 -- src/generators.rt:33:25
-mul_raise : tie.Need-overflow-mul-raise invariant-loop decreases-loop
+mul_raise : tie.Need-offset_bounds-cols-i invariant-loop-i decreases-loop-i
 mul_raise c = search rules
 
 -- src/generators.rt:33:25
-slice_read_raise : tie.Need-slice-read-raise invariant-loop decreases-loop
+slice_read_raise : tie.Need-bounds-cols-i invariant-loop-i decreases-loop-i
 slice_read_raise c = search rules
 
 -- src/generators.rt:33:34
-shared_slice_read_raise : tie.Need-shared-slice-read-raise invariant-loop decreases-loop
+shared_slice_read_raise : tie.Need-bounds-word-i invariant-loop-i decreases-loop-i
 shared_slice_read_raise c = search rules
 
 -- src/generators.rt:33:19
-raise_requires : tie.Need-raise-requires invariant-loop decreases-loop
+raise_requires : tie.Need-raise-requires invariant-loop-i decreases-loop-i
 raise_requires c κs =
     let l = c.before.before.before in
-    (column_below l.loop.invariant l.before.before.before.requires.1 c.before.before.loop-test.true, l.before.before.before.requires.2)
+    (column_below l.loop-i.invariant l.before.before.before.requires.1 c.before.before.loop-i-test.true, l.before.before.before.requires.2)
 
 -- src/generators.rt:33:9
-mul_cols : tie.Need-overflow-mul-cols invariant-loop decreases-loop
+mul_cols : tie.Need-offset_bounds-cols-i-in-loop-i invariant-loop-i decreases-loop-i
 mul_cols c = search rules
 
 -- src/generators.rt:33:9
-slice_write_cols : tie.Need-slice-write-cols invariant-loop decreases-loop
+slice_write_cols : tie.Need-bounds-cols-i-in-loop-i invariant-loop-i decreases-loop-i
 slice_write_cols c = omega arith
 
 -- src/generators.rt:34:9
-add_i : tie.Need-overflow-add-i invariant-loop decreases-loop
+add_i : tie.Need-overflow_add-i invariant-loop-i decreases-loop-i
 add_i c = search rules
 
 -- src/generators.rt:32:5
-loop_less : tie.Need-loop-smaller invariant-loop decreases-loop
+loop_less : tie.Need-loop-i-smaller invariant-loop-i decreases-loop-i
 loop_less c = search rules
 
 -- src/generators.rt:32:5
-loop_again : tie.Need-loop-preserved invariant-loop decreases-loop
+loop_again : tie.Need-loop-i-preserved invariant-loop-i decreases-loop-i
 loop_again c =
     let l = c.before.before.before.before in
-    raising_turn l.loop.invariant l.before.before.before.requires.0 c.before.before.before.loop-test.true c.raise.ensures
+    raising_turn l.loop-i.invariant l.before.before.before.requires.0 c.before.before.before.loop-i-test.true c.raise.ensures
 
 -- src/generators.rt:27:1
-same_length : tie.Need-same-length invariant-loop decreases-loop
+same_length : tie.Need-shape_of-cols invariant-loop-i decreases-loop-i
 same_length c = search rules
 
 -- src/generators.rt:27:1
-returns : tie.Need-returns invariant-loop decreases-loop
-returns c = raising_done c.before.loop.invariant c.before.before.before.before.requires.0 (omega arith)
+returns : tie.Need-returns invariant-loop-i decreases-loop-i
+returns c = raising_done c.before.loop-i.invariant c.before.before.before.before.requires.0 (omega arith)
 
 pub add_column_spec : {M : Type 1} → statement M
 add_column_spec =
     tie.close
     (tie.spec
-    invariant-loop
-    decreases-loop
+    invariant-loop-i
+    decreases-loop-i
     loop_holds
     mul_raise
     slice_read_raise

@@ -7,27 +7,27 @@ use Rattle.correlations.specs.Folding.{weighed}
 use Rattle.payload_blocks.proofs.generators.add_generator.Statement.{statement}
 use Rattle.payload_blocks.proofs.generators.add_generator.Tie as tie
 
-put_word_requires : tie.Need-put-word-requires
+put_word_requires : tie.Need-put_word-requires
 put_word_requires c κs = search rules
 
-add_column_requires : tie.Need-add-column-requires
+add_column_requires : tie.Need-add_column-requires
 add_column_requires c κs = search rules
 
-same_length : tie.Need-same-length
+same_length : tie.Need-shape_of-payload
 same_length c = search rules
 
-same_length_2 : tie.Need-same-length-2
+same_length_2 : tie.Need-shape_of-word
 same_length_2 c = search rules
 
-same_length_3 : tie.Need-same-length-3
+same_length_3 : tie.Need-shape_of-cols
 same_length_3 c = search rules
 
 returns : tie.Need-returns
 returns c =
     let a = c.before.before in
     let w = a.before.before.before.before.before.before.before in
-    let s = w.before.before.before.before.before.before.before.before in
-    a.add-column.ensures ∙ ap (λ (g : List ℕ). weighed s.args.h g s.args.cols.now) w.put_word.ensures
+    let s = w.before.before.before.before.before.before.before in
+    a.add_column.ensures ∙ ap (λ (g : List ℕ). weighed s.args.h g s.args.cols.now) w.put_word.ensures
 
 pub add_generator_spec : {M : Type 1} → statement M
 add_generator_spec =

@@ -5,42 +5,42 @@ use Rattle.payload_blocks.proofs.Turns.{Halving, halving_none, halving_turn, hal
 use Rattle.payload_blocks.proofs.payload_bits.put_payload.Statement.{statement}
 use Rattle.payload_blocks.proofs.payload_bits.put_payload.Tie as tie
 
-abbrev invariant-loop : tie.invariant-loop
-invariant-loop payload₀ q i₀ rest₀ payload i rest = Halving payload₀ q payload i rest
+abbrev invariant-loop-i : tie.invariant-loop-i
+invariant-loop-i payload₀ q i₀ rest₀ payload i rest = Halving payload₀ q payload i rest
 
-abbrev decreases-loop : tie.decreases-loop
-decreases-loop payload₀ q i₀ rest₀ payload i rest = i
+abbrev decreases-loop-i : tie.decreases-loop-i
+decreases-loop-i payload₀ q i₀ rest₀ payload i rest = i
 
-loop_holds : tie.Need-loop-init invariant-loop decreases-loop
+loop_holds : tie.Need-loop-i-init invariant-loop-i decreases-loop-i
 loop_holds c = halving_none c.args.payload.now c.args.q
 
-sub_i : tie.Need-overflow-sub-i invariant-loop decreases-loop
+sub_i : tie.Need-overflow_sub-i invariant-loop-i decreases-loop-i
 sub_i c = search rules
 
-cast_payload : tie.Need-overflow-cast-payload invariant-loop decreases-loop
+cast_payload : tie.Need-overflow_cast-payload invariant-loop-i decreases-loop-i
 cast_payload c = search rules
 
-slice_write_payload : tie.Need-slice-write-payload invariant-loop decreases-loop
-slice_write_payload c = omega (arith, c.before.loop.invariant.near, c.before.loop.invariant.same)
+slice_write_payload : tie.Need-bounds-payload-i invariant-loop-i decreases-loop-i
+slice_write_payload c = omega (arith, c.before.loop-i.invariant.near, c.before.loop-i.invariant.same)
 
-loop_less : tie.Need-loop-smaller invariant-loop decreases-loop
+loop_less : tie.Need-loop-i-smaller invariant-loop-i decreases-loop-i
 loop_less c = search rules
 
-loop_again : tie.Need-loop-preserved invariant-loop decreases-loop
-loop_again c = halving_turn c.before.loop.invariant c.loop-test.true
+loop_again : tie.Need-loop-i-preserved invariant-loop-i decreases-loop-i
+loop_again c = halving_turn c.before.loop-i.invariant c.loop-i-test.true
 
-same_length : tie.Need-same-length invariant-loop decreases-loop
-same_length c = c.before.loop.invariant.same
+same_length : tie.Need-shape_of-payload invariant-loop-i decreases-loop-i
+same_length c = c.before.loop-i.invariant.same
 
-returns : tie.Need-returns invariant-loop decreases-loop
-returns c = halving_done c.before.loop.invariant (omega arith)
+returns : tie.Need-returns invariant-loop-i decreases-loop-i
+returns c = halving_done c.before.loop-i.invariant (omega arith)
 
 pub put_payload_spec : {M : Type 1} → statement M
 put_payload_spec =
     tie.close
     (tie.spec
-    invariant-loop
-    decreases-loop
+    invariant-loop-i
+    decreases-loop-i
     loop_holds
     sub_i
     cast_payload

@@ -13,7 +13,7 @@ use Rattle.positions.proofs.Choosing.{written}
 use Rattle.positions.proofs.own.own_bits.Statement.{statement}
 use Rattle.positions.proofs.own.own_bits.Tie as tie
 
-returns : tie.Need-returns
+returns : tie.Need-returns-then-from-to
 returns c =
     let s = c.before.before.before.before in
     let a = s.args in
@@ -26,15 +26,15 @@ returns c =
           ap (λ (u : List ℕ). get_or u k 0) s.requires.3
           ∙ zeros_at 32 k
           ∙ sym (over w)
-          ∙ ap (λ (j : ℕ). sum_at (pairs_in (drop j a.pairs.now)) a.i w) (sym c.if1.true);
+          ∙ ap (λ (j : ℕ). sum_at (pairs_in (drop j a.pairs.now)) a.i w) (sym c.if-from-to.true);
     }
 
 renew_requires : tie.Need-renew-requires
 renew_requires c κs = search rules
 
-sum_rows_requires : tie.Need-sum-rows-requires
+sum_rows_requires : tie.Need-sum_rows-requires
 sum_rows_requires c κs =
-    let s = c.before.before.before.before.before.before.before.before.before.before.before.before.before in
+    let s = c.before.before.before.before.before.before.before.before.before.before.before.before in
     let f = s.requires.0 in
     let few : s.args.n * s.args.count ≤ s.args.n * s.args.l = mul-le-mul_left s.args.n s.requires.2 in (
       s.requires.1,
@@ -45,16 +45,16 @@ sum_rows_requires c κs =
       ap length s.requires.3 ∙ length-replicate {A = ℕ} 32 0,
     )
 
-same_length : tie.Need-same-length
+same_length : tie.Need-shape_of-b
 same_length c = search rules
 
-same_length_2 : tie.Need-same-length-2
+same_length_2 : tie.Need-shape_of-rows
 same_length_2 c = search rules
 
-returns_2 : tie.Need-returns-2
+returns_2 : tie.Need-returns
 returns_2 c =
     let r = c.before.before.before.before.before.before.before in
-    let s = r.before.before.before.before.before.before.before in
+    let s = r.before.before.before.before.before.before in
     let a = s.args in
     record {
       few = s.requires.2;

@@ -18,64 +18,64 @@ use Rattle.positions.proofs.Keeping.{beside}
 use Rattle.positions.proofs.position.position.Statement.{statement}
 use Rattle.positions.proofs.position.position.Tie as tie
 
-mul_k : tie.Need-overflow-mul-k
+mul_k : tie.Need-overflow_mul-k
 mul_k c = search rules
 
-slice_reshare_prefix_choose : tie.Need-slice-reshare-prefix-choose
+slice_reshare_prefix_choose : tie.Need-slice_bounds-choose-end
 slice_reshare_prefix_choose c = search rules
 
-slice_aggregate_choose : tie.Need-slice-aggregate-choose
+slice_aggregate_choose : tie.Need-slice_bounds-choose-end-2
 slice_aggregate_choose c =
-    let s = c.before.before.before.before.before.before in
+    let s = c.before.before.before.before in
     sym (bits_long s.args.deep s.args.l s.args.h s.args.n s.args.i s.args.at s.args.t.now s.args.b.now s.args.slots.now s.args.map.now s.requires.0)
 
-choose_requires : tie.Need-choose-requires
+choose_requires : tie.Need-choose-next-requires
 choose_requires c κs =
-    let s = c.before.before.before.before.before.before.before in
+    let s = c.before.before.before.before in
     choose_fits s.args.deep s.args.l s.args.h s.args.n s.args.i s.args.at s.args.t.now s.args.b.now s.args.slots.now s.args.map.now s.requires.0 s.args.s s.requires.1
 
 settle_requires : tie.Need-settle-requires
 settle_requires c κs =
-    let r = c.before.before.before.before.choose.result in
-    let s = c.before.before.before.before.before.before.before.before.before.before.before.before in (
-      settle_fits s.args.deep s.args.l s.args.h s.args.n s.args.i s.args.at s.args.t.now s.args.b.now s.args.slots.now s.args.map.now s.requires.0 r.count c.before.before.before.before.choose.ensures.position.holds.few,
-      omega (arith, length-take r.count r.code, c.before.before.before.before.choose.ensures.position.holds.counted),
+    let r = c.before.before.before.before.choose-next.result in
+    let s = c.before.before.before.before.before.before.before.before.before in (
+      settle_fits s.args.deep s.args.l s.args.h s.args.n s.args.i s.args.at s.args.t.now s.args.b.now s.args.slots.now s.args.map.now s.requires.0 r.count c.before.before.before.before.choose-next.ensures.position.holds.few,
+      omega (arith, length-take r.count r.code, c.before.before.before.before.choose-next.ensures.position.holds.counted),
     )
 
-slice_relend_prefix_advance : tie.Need-slice-relend-prefix-advance
+slice_relend_prefix_advance : tie.Need-slice_bounds-advance-end
 slice_relend_prefix_advance c = search rules
 
-slice_aggregate_advance : tie.Need-slice-aggregate-advance
+slice_aggregate_advance : tie.Need-slice_bounds-advance-end-2
 slice_aggregate_advance c =
-    let s = c.before.before.before.before.before.before.before.before.before.before.before.before.before.before.before.before.before.before.before in
-    sym (length-take-le (3 * s.args.h) c.before.before.before.before.before.before.settle.new.0 (omega (arith, c.before.before.before.before.before.before.settle.auto.0, s.requires.0.place, s.requires.0.room)))
+    let s = c.before.before.before.before.before.before.before.before.before.before.before.before.before.before.before.before in
+    sym (length-take-le (3 * s.args.h) c.before.before.before.before.before.before.settle.new.b (omega (arith, c.before.before.before.before.before.before.settle.auto.b, s.requires.0.place, s.requires.0.room)))
 
 advance_requires : tie.Need-advance-requires
 advance_requires c κs =
-    let s = c.before.before.before.before.before.before.before.before.before.before.before.before.before.before.before.before.before.before.before.before in
-    let ch = c.before.before.before.before.before.before.before.before.before.before.before.before.choose in
+    let s = c.before.before.before.before.before.before.before.before.before.before.before.before.before.before.before.before.before in
+    let ch = c.before.before.before.before.before.before.before.before.before.before.before.before.choose-next in
     let st = c.before.before.before.before.before.before.before.settle in
-    advance_fits s.args.deep s.args.l s.args.h s.args.n s.args.i s.args.at s.args.t.now s.args.b.now s.args.slots.now s.args.map.now s.requires.0 _ s.args.s ch.result _ s.args.bits.now st.new.0 st.new.1.0 s.requires.1 ch.ensures.position.holds.few ch.ensures st.ensures st.auto.0
+    advance_fits s.args.deep s.args.l s.args.h s.args.n s.args.i s.args.at s.args.t.now s.args.b.now s.args.slots.now s.args.map.now s.requires.0 _ s.args.s ch.result _ s.args.bits.now st.new.b st.new.slots s.requires.1 ch.ensures.position.holds.few ch.ensures st.ensures st.auto.b
 
-same_length : tie.Need-same-length
+same_length : tie.Need-shape_of-t
 same_length c = search rules
 
-same_length_2 : tie.Need-same-length-2
+same_length_2 : tie.Need-shape_of-b
 same_length_2 c = search rules
 
-same_length_3 : tie.Need-same-length-3
+same_length_3 : tie.Need-shape_of-slots
 same_length_3 c = search rules
 
 returns : tie.Need-returns
 returns c =
-    let s = c.before.before.before.before.before.before.before.before.before.before.before.before.before.before.before.before.before.before.before.before.before.before.before.before.before.before.before in
-    let ch = c.before.before.before.before.before.before.before.before.before.before.before.before.before.before.before.before.before.before.before.choose in
+    let s = c.before.before.before.before.before.before.before.before.before.before.before.before.before.before.before.before.before.before.before.before.before.before.before.before in
+    let ch = c.before.before.before.before.before.before.before.before.before.before.before.before.before.before.before.before.before.before.before.choose-next in
     let st = c.before.before.before.before.before.before.before.before.before.before.before.before.before.before.settle in
     let ad = c.before.before.before.before.before.before.advance in
     let f = s.requires.0 in
-    let bb = ad.new.1.0 in
-    let rest = drop (3 * s.args.h) st.new.0 in
-    let lb : length bb ≡ 3 * s.args.h = ad.auto.1.0 ∙ length-take-le (3 * s.args.h) st.new.0 (omega (arith, st.auto.0, f.place, f.room)) in (
+    let bb = ad.new.b in
+    let rest = drop (3 * s.args.h) st.new.b in
+    let lb : length bb ≡ 3 * s.args.h = ad.auto.b ∙ length-take-le (3 * s.args.h) st.new.0 (omega (arith, st.auto.0, f.place, f.room)) in (
       record { few = ch.ensures.position.holds.few; long = ch.ensures.position.holds.counted; named = ad.ensures.0 },
       beside _ (3 * s.args.h) s.args.at s.args.l ch.result.count s.args.b.now st.ensures.b₁ (bb ++ rest) ch.ensures.position.holds.few (omega (arith, f.place))
           st.ensures.noted (drop_at bb rest (3 * s.args.h) lb ∙ st.ensures.history),

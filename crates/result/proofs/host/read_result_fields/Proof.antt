@@ -6,22 +6,22 @@ use Rattle.result.specs.declared.host.ResultFields.{ResultFields}
 use Rattle.result.proofs.host.read_result_fields.Statement.{statement}
 use Rattle.result.proofs.host.read_result_fields.Tie as tie
 
-read_result_requires : tie.Need-read-result-requires
+read_result_requires : tie.Need-read_result-answer-requires
 read_result_requires c κs = search rules
 
-fields_for_host_requires : tie.Need-fields-for-host-requires
+fields_for_host_requires : tie.Need-fields_for_host-requires
 fields_for_host_requires c κs = search rules
 
-same_length : tie.Need-same-length
+same_length : tie.Need-shape_of-scores
 same_length c = search rules
 
-same_length_2 : tie.Need-same-length-2
+same_length_2 : tie.Need-shape_of-inputs
 same_length_2 c = search rules
 
 returns : tie.Need-returns
 returns c =
-    let r = c.before.before.before.before.read_result in
-    ap (λ (a : ResultFields). host_customer a r.new.1.0 r.new.1.1.0) c.fields-for-host.ensures ∙ ap customer_for_host r.ensures
+    let r = c.before.before.before.before.read_result-answer in
+    ap (λ (a : ResultFields). host_customer a r.new.inputs r.new.1.1.0) c.fields_for_host.ensures ∙ ap customer_for_host r.ensures
 
 pub read_result_fields_spec : {M : Type 1} → statement M
 read_result_fields_spec = tie.close (tie.spec read_result_requires fields_for_host_requires same_length same_length_2 returns)

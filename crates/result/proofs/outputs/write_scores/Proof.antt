@@ -19,22 +19,22 @@ fits c = omega (arith, c.requires.0.rows_are, c.requires.1)
 front : (c : tie.Start) → length (take c.args.at.rows c.args.scores.now) ≡ c.args.at.rows
 front c = length-take-le c.args.at.rows c.args.scores.now (fits c)
 
-slice_relend_prefix_copy_scores : tie.Need-slice-relend-prefix-copy-scores
+slice_relend_prefix_copy_scores : tie.Need-slice_bounds-copy_scores-end
 slice_relend_prefix_copy_scores c = search rules
 
-slice_aggregate_copy_scores : tie.Need-slice-aggregate-copy-scores
+slice_aggregate_copy_scores : tie.Need-slice_bounds-copy_scores-end-2
 slice_aggregate_copy_scores c = sym (front c.before.before)
 
-copy_scores_requires : tie.Need-copy-scores-requires
+copy_scores_requires : tie.Need-copy_scores-requires
 copy_scores_requires c κs =
     let s = c.before.before in
     let w = s.requires.0 in
     (omega (arith, front s, w.rows_are, w.shaped.few_rows), omega (arith, front s, w.rows_are, w.scores_begin, w.shaped.ends))
 
-fill_scores_requires : tie.Need-fill-scores-requires
+fill_scores_requires : tie.Need-fill_scores-requires
 fill_scores_requires c κs = search rules
 
-same_length : tie.Need-same-length
+same_length : tie.Need-shape_of-scores
 same_length c = search rules
 
 returns : tie.Need-returns
@@ -43,9 +43,9 @@ returns c =
     let s = p.before.before.before in
     let w = s.requires.0 in
     let scores = s.args.scores.now in
-    c.before.fill-scores.ensures
-    ∙ filled_behind (pos 0) p.copy-scores.new.1.1.0 scores s.args.at.rows (p.copy-scores.auto.1.1.0 ∙ front s) (fits s)
-    ∙ ap (padded (pos 0) (length scores)) (p.copy-scores.ensures ∙ ap₂ (scores_from s.args.bytes.now) w.scores_begin (front s ∙ w.rows_are))
+    c.before.fill_scores.ensures
+    ∙ filled_behind (pos 0) p.copy_scores.new.scores scores s.args.at.rows (p.copy_scores.auto.scores ∙ front s) (fits s)
+    ∙ ap (padded (pos 0) (length scores)) (p.copy_scores.ensures ∙ ap₂ (scores_from s.args.bytes.now) w.scores_begin (front s ∙ w.rows_are))
 
 pub write_scores_spec : {M : Type 1} → statement M
 write_scores_spec =
