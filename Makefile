@@ -17,14 +17,14 @@ SHELL = /bin/bash
 
 CC = cc
 CFLAGS = -std=c11 -O2 -Wall -Wextra -Werror
-# tests/run-all compiles with these too, after rt ci has removed target/.
+# tests/run-all compiles with these too.
 export CC CFLAGS
 
 LIBRARY = target/staticlib/libcaldurrex.a
 PROGRAM = target/bin/decode_job
 LOG = target/bin/shift_log
 OUT = target/c
-PROVED = crates.txt $(shell find crates -name '*.rt' -o -name '*.antt')
+PROVED = crates.txt $(shell find crates -name out -prune -o \( -name '*.rt' -o -name '*.antt' \) -print)
 
 # The sample record of the rules, as bytes.
 RECORD = crates/decode_job/stdin
@@ -107,22 +107,14 @@ stored-records: $(OUT)/make_records
 clean:
 	rm -rf target
 
-# Shown is a line for each crate as it is proved; all that rt says is shown only where something is not.
-define prove
-	@mkdir -p target
-	@echo 'rt $(1): takes some minutes the first time; all that it says goes to target/rt.log' >&2
-	@rt $(1) 2>&1 | tee target/rt.log | sed -u -n '/^rt: /p' >&2 || { cat target/rt.log >&2; exit 1; }
-	@touch $@
-endef
-
 $(PROGRAM): $(PROVED)
-	$(call prove,check decode_job)
+	@tests/build program decode_job
 
 $(LOG): $(PROVED)
-	$(call prove,check shift_log)
+	@tests/build program shift_log
 
 $(LIBRARY): $(PROVED)
-	$(call prove,staticlib caldurrex)
+	@tests/build library caldurrex
 
 # What a host has beside its own file.
 $(OUT)/make_record $(OUT)/decode_stream: examples/settings.c examples/settings.h
