@@ -11,7 +11,7 @@ use Rattle.list_words.proofs.call.power.Tie as tie
 shifted : (k : ℕ) → k ≤ 20 → (1 * 2 ^ k) % 2 ^ 64 ≡ 2 ^ k
 shifted k h = ap (λ (x : ℕ). x % 2 ^ 64) (one-mul (2 ^ k)) ∙ mod-eq_of_lt (pow-lt {i = k} {j = 64} (omega arith))
 
-shl_result : tie.Need-overflow-shl-result
+shl_result : tie.Need-overflow_shl-result
 shl_result c = search rules
 
 returns : tie.Need-returns

@@ -18,8 +18,8 @@ use Rattle.list_words.proofs.Serving.{served_19, served_rows}
 use Rattle.list_words.proofs.call.serve.Statement.{statement}
 use Rattle.list_words.proofs.call.serve.Tie as tie
 
-module _ (c : tie.After-clear-tables) where
-  abbrev done : tie.After-list-in-tables
+module _ (c : tie.After-clear_tables) where
+  abbrev done : tie.After-list_in_tables-found
   done = c.before.before.before.before.before.before.before.before.before.before.before.before
 
   abbrev start : tie.Start
@@ -28,83 +28,83 @@ module _ (c : tie.After-clear-tables) where
   abbrev of : Code
   of = code start.args.m start.args.arikan start.args.map.now start.args.pairs.now
 
-  all_listed : Listed of start.args.soft.now start.args.mark done.list-in-tables.result start.args.inputs.now start.args.words.now start.args.scores.now
-      done.list-in-tables.last.1.1.1.1.1.1.1.1.0 done.list-in-tables.last.1.1.1.1.1.1.1.1.1.0 done.list-in-tables.last.1.1.1.1.1.1.1.1.1.1.0
+  all_listed : Listed of start.args.soft.now start.args.mark done.list_in_tables-found.result start.args.inputs.now start.args.words.now start.args.scores.now
+      done.list_in_tables-found.last.1.1.1.1.1.1.1.1.0 done.list_in_tables-found.last.1.1.1.1.1.1.1.1.1.0 done.list_in_tables-found.last.1.1.1.1.1.1.1.1.1.1.0
   all_listed =
-      subst (λ (z : ℤ). Listed of start.args.soft.now z done.list-in-tables.result start.args.inputs.now start.args.words.now start.args.scores.now
-      done.list-in-tables.last.1.1.1.1.1.1.1.1.0 done.list-in-tables.last.1.1.1.1.1.1.1.1.1.0 done.list-in-tables.last.1.1.1.1.1.1.1.1.1.1.0)
-      (to_z-of_z w32 start.args.mark start.fits.mark) done.list-in-tables.ensures
+      subst (λ (z : ℤ). Listed of start.args.soft.now z done.list_in_tables-found.result start.args.inputs.now start.args.words.now start.args.scores.now
+      done.list_in_tables-found.last.1.1.1.1.1.1.1.1.0 done.list_in_tables-found.last.1.1.1.1.1.1.1.1.1.0 done.list_in_tables-found.last.1.1.1.1.1.1.1.1.1.1.0)
+      (to_z-of_z w32 start.args.mark start.ranges.mark) done.list_in_tables-found.ensures
 
-  same_scores : length done.list-in-tables.last.1.1.1.1.1.1.1.1.1.1.0 ≡ length start.args.scores.now
-  same_scores = done.list-in-tables.kept.1.1.1.1.1.1.1.1.1.1.0
+  same_scores : length done.list_in_tables-found.last.1.1.1.1.1.1.1.1.1.1.0 ≡ length start.args.scores.now
+  same_scores = done.list_in_tables-found.kept.1.1.1.1.1.1.1.1.1.1.0
 
-  numbers_zero : c.clear-tables.new.0 ≡ replicate (length start.args.numbers.now) 0
-  numbers_zero = c.clear-tables.ensures.0 ∙ ap (λ (k : ℕ). replicate k 0) done.list-in-tables.kept.1.1.1.1.1.1.0
+  numbers_zero : c.clear_tables.new.0 ≡ replicate (length start.args.numbers.now) 0
+  numbers_zero = c.clear_tables.ensures.0 ∙ ap (λ (k : ℕ). replicate k 0) done.list_in_tables-found.kept.1.1.1.1.1.1.0
 
-  bytes_zero : c.clear-tables.new.1.0 ≡ replicate (length start.args.bytes.now) 0
-  bytes_zero = c.clear-tables.ensures.1 ∙ ap (λ (k : ℕ). replicate k 0) done.list-in-tables.kept.1.1.1.1.1.1.1.0
+  bytes_zero : c.clear_tables.new.1.0 ≡ replicate (length start.args.bytes.now) 0
+  bytes_zero = c.clear_tables.ensures.1 ∙ ap (λ (k : ℕ). replicate k 0) done.list_in_tables-found.kept.1.1.1.1.1.1.1.0
 
   -- no more words than payloads
-  found_small : done.list-in-tables.result ≤ 1048576
+  found_small : done.list_in_tables-found.result ≤ 1048576
   found_small =
       let y = taken start.args.soft.now in
-      omega (arith, all_listed.count, hits_few start.args.mark 0 (correlations of y), length_correlations of y, pow_mono {i = payload_size of} {j = 20} start.pre.few)
+      omega (arith, all_listed.count, hits_few start.args.mark 0 (correlations of y), length_correlations of y, pow_mono {i = payload_size of} {j = 20} start.requires.few)
 
-cast_last_bits : tie.Need-overflow-cast-last-bits
+cast_last_bits : tie.Need-overflow_cast-k
 cast_last_bits c = search rules
 
-last_bits_requires : tie.Need-last-bits-requires
+last_bits_requires : tie.Need-last_bits-r-requires
 last_bits_requires c κs = search rules
 
-list_in_tables_requires : tie.Need-list-in-tables-requires
+list_in_tables_requires : tie.Need-list_in_tables-found-requires
 list_in_tables_requires c κs = search rules
 
-clear_tables_requires : tie.Need-clear-tables-requires
+clear_tables_requires : tie.Need-clear_tables-requires
 clear_tables_requires c κs = search rules
 
-same_length : tie.Need-same-length
+same_length : tie.Need-shape_of-numbers-then-scores-found
 same_length c = search rules
 
-same_length_2 : tie.Need-same-length-2
+same_length_2 : tie.Need-shape_of-bytes-then-scores-found
 same_length_2 c = search rules
 
-same_length_3 : tie.Need-same-length-3
+same_length_3 : tie.Need-shape_of-inputs-then-scores-found
 same_length_3 c = search rules
 
-same_length_4 : tie.Need-same-length-4
+same_length_4 : tie.Need-shape_of-words-then-scores-found
 same_length_4 c = search rules
 
-same_length_5 : tie.Need-same-length-5
+same_length_5 : tie.Need-shape_of-scores-then-scores-found
 same_length_5 c = search rules
 
-returns : tie.Need-returns
+returns : tie.Need-returns-then-scores-found
 returns c =
     let z = c.before.before.before.before.before in
-    served_19 (start z).args.numbers.now (start z).args.bytes.now (all_listed z) (numbers_zero z) (bytes_zero z) (omega (arith, c.if1.true, same_scores z))
+    served_19 (start z).args.numbers.now (start z).args.bytes.now (all_listed z) (numbers_zero z) (bytes_zero z) (omega (arith, c.if-scores-found.true, same_scores z))
 
-cast_t16 : tie.Need-overflow-cast-t16
+cast_t16 : tie.Need-overflow_cast-result
 cast_t16 c = omega (arith, found_small c.before.before.before.before.before)
 
-same_length_6 : tie.Need-same-length-6
+same_length_6 : tie.Need-shape_of-numbers
 same_length_6 c = search rules
 
-same_length_7 : tie.Need-same-length-7
+same_length_7 : tie.Need-shape_of-bytes
 same_length_7 c = search rules
 
-same_length_8 : tie.Need-same-length-8
+same_length_8 : tie.Need-shape_of-inputs
 same_length_8 c = search rules
 
-same_length_9 : tie.Need-same-length-9
+same_length_9 : tie.Need-shape_of-words
 same_length_9 c = search rules
 
-same_length_10 : tie.Need-same-length-10
+same_length_10 : tie.Need-shape_of-scores
 same_length_10 c = search rules
 
-returns_2 : tie.Need-returns-2
+returns_2 : tie.Need-returns
 returns_2 c =
     let z = c.before.before.before.before.before in
-    let k = (done z).list-in-tables.auto in
-    served_rows (start z).args.numbers.now (start z).args.bytes.now (all_listed z) (numbers_zero z) (bytes_zero z) k.1.1.1.1.1.1.1.1.0 k.1.1.1.1.1.1.1.1.1.0 k.1.1.1.1.1.1.1.1.1.1.0 (omega (arith, c.if1.false, same_scores z))
+    let k = (done z).list_in_tables-found.auto in
+    served_rows (start z).args.numbers.now (start z).args.bytes.now (all_listed z) (numbers_zero z) (bytes_zero z) k.1.1.1.1.1.1.1.1.0 k.1.1.1.1.1.1.1.1.1.0 k.1.1.1.1.1.1.1.1.1.1.0 (omega (arith, c.if-scores-found.false, same_scores z))
 
 pub serve_spec : {M : Type 1} → statement M
 serve_spec =

@@ -15,21 +15,21 @@ use Rattle.list_words.proofs.marks.reached.Statement.{statement}
 use Rattle.list_words.proofs.marks.reached.Tie as tie
 
 -- the test that was made, b, is the test of the correlation
-tested : (c : tie.After-value-of) (b : Bool) → le_z (to_z w32 (of_z w32 c.before.args.mark)) (to_z w32 (of_z w32 c.value_of_lem.result)) ≡ b
+tested : (c : tie.After-value_of) (b : Bool) → le_z (to_z w32 (of_z w32 c.before.args.mark)) (to_z w32 (of_z w32 c.value_of.result)) ≡ b
     → (z : ℤ) → nat_abs z ≤ 2096128 → c.before.args.v ≡ wrapped z → cond b 1 0 ≡ counts c.before.args.mark z
 tested c b t z s e =
     ap (λ (x : Bool). cond x 1 0)
     (sym t ∙ ap₂ le_z (to_z-of_z w32 c.before.args.mark c.before.ranges.mark)
-    (to_z-of_z w32 c.value_of_lem.result (record { sfits = c.value_of_lem.type-inv }) ∙ c.value_of_lem.ensures z s e))
+    (to_z-of_z w32 c.value_of.result (record { sfits = c.value_of.type_inv }) ∙ c.value_of.ensures z s e))
 
-value_of_requires : tie.Need-value-of-requires
+value_of_requires : tie.Need-value_of-requires
 value_of_requires c κs = search rules
 
-returns : tie.Need-returns
-returns c = (omega arith, tested c.before _ c.if1.true)
+returns : tie.Need-returns-then-mark-value_of
+returns c = (omega arith, tested c.before _ c.if-mark-value_of.true)
 
-returns_2 : tie.Need-returns-2
-returns_2 c = (omega arith, tested c.before _ c.if1.false)
+returns_2 : tie.Need-returns
+returns_2 c = (omega arith, tested c.before _ c.if-mark-value_of.false)
 
 pub reached_spec : {M : Type 1} → statement M
 reached_spec = tie.close (tie.spec value_of_requires returns returns_2)

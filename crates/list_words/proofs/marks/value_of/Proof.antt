@@ -22,26 +22,26 @@ high v (pos n) l s e = absurd (omega (arith, l, s, e))
 high v (negsuc n) l s e = ap negsuc (omega (arith, l, s, e))
 
 -- the number behind the sign is below 2 ^ 31
-small : (c : tie.Else1) → 4294967295 - c.before.args.v < 2147483648
+small : (c : tie.Else-v-lt2147483648) → 4294967295 - c.before.args.v < 2147483648
 small c = omega arith
 
-cast_result : tie.Need-overflow-cast-result
+cast_result : tie.Need-overflow_cast-result
 cast_result c = search rules
 
-sub_result : tie.Need-overflow-sub-result
+sub_result : tie.Need-overflow_sub-result
 sub_result c = search rules
 
-cast_result_2 : tie.Need-overflow-cast-result-2
+cast_result_2 : tie.Need-overflow_cast-result-else-v-lt2147483648
 cast_result_2 c = search rules
 
-sub_result_2 : tie.Need-overflow-sub-result-2
+sub_result_2 : tie.Need-overflow_sub-result-else-v-lt2147483648
 sub_result_2 c = below_zero_fits w32 (4294967295 - c.before.args.v) (small c)
 
-returns : tie.Need-returns
-returns c z s e = to_z_pos w32 c.before.args.v c.if1.true ∙ low c.before.args.v z c.if1.true s e
+returns : tie.Need-returns-then-v-lt2147483648
+returns c z s e = to_z_pos w32 c.before.args.v c.if-v-lt2147483648.true ∙ low c.before.args.v z c.if-v-lt2147483648.true s e
 
-returns_2 : tie.Need-returns-2
-returns_2 c z s e = below_zero_back w32 (4294967295 - c.before.args.v) (small c) ∙ high c.before.args.v z c.if1.false s e
+returns_2 : tie.Need-returns-else-v-lt2147483648
+returns_2 c z s e = below_zero_back w32 (4294967295 - c.before.args.v) (small c) ∙ high c.before.args.v z c.if-v-lt2147483648.false s e
 
 pub value_of_spec : {M : Type 1} → statement M
 value_of_spec =

@@ -12,19 +12,19 @@ use Rattle.list_words.proofs.Passing.{block_small}
 use Rattle.list_words.proofs.passes.count_turn.Statement.{statement}
 use Rattle.list_words.proofs.passes.count_turn.Tie as tie
 
-correlate_block_requires : tie.Need-correlate-block-requires
+correlate_block_requires : tie.Need-correlate_block-requires
 correlate_block_requires c κs = search rules
 
-count_block_requires : tie.Need-count-block-requires
+count_block_requires : tie.Need-count_block-requires
 count_block_requires c κs = search rules
 
-same_length : tie.Need-same-length
+same_length : tie.Need-shape_of-payload
 same_length c = search rules
 
-same_length_2 : tie.Need-same-length-2
+same_length_2 : tie.Need-shape_of-word
 same_length_2 c = search rules
 
-same_length_3 : tie.Need-same-length-3
+same_length_3 : tie.Need-shape_of-bins
 same_length_3 c = search rules
 
 returns : tie.Need-returns
@@ -33,8 +33,8 @@ returns c =
     let s = b.before.before.before.before.before.before.before.before.before.before in
     let a = s.args in
     let of : Code = code a.m a.arikan a.map.now a.pairs.now in
-    subst (λ (z : ℤ). c.count-block.result ≡ length (hits z a.q (block of a.soft.now a.r a.q))) (to_z-of_z w32 a.mark s.ranges.mark)
-    (c.count-block.ensures.1 (block of a.soft.now a.r a.q) a.q (block_small s.requires.0 a.q) b.correlate-block.ensures)
+    subst (λ (z : ℤ). c.count_block.result ≡ length (hits z a.q (block of a.soft.now a.r a.q))) (to_z-of_z w32 a.mark s.ranges.mark)
+    (c.count_block.ensures.1 (block of a.soft.now a.r a.q) a.q (block_small s.requires.0 a.q) b.correlate_block.ensures)
 
 pub count_turn_spec : {M : Type 1} → statement M
 count_turn_spec =

@@ -16,87 +16,87 @@ use Rattle.list_words.proofs.Passing.{Passing, passing_none, passing_turn, passi
 use Rattle.list_words.proofs.passes.count_words.Statement.{statement}
 use Rattle.list_words.proofs.passes.count_words.Tie as tie
 
-abbrev invariant-loop : tie.invariant-loop
-invariant-loop m arikan map pairs soft cols payload₀ word₀ bins₀ r total mark found₀ q₀ payload word bins found q =
+abbrev invariant-loop-q : tie.invariant-loop-q
+invariant-loop-q m arikan map pairs soft cols payload₀ word₀ bins₀ r total mark found₀ q₀ payload word bins found q =
     Passing (code m arikan map pairs) soft (to_z w32 mark) r (length payload₀) (length word₀) (length bins₀) payload word bins found q
 
-abbrev decreases-loop : tie.decreases-loop
-decreases-loop m arikan map pairs soft cols payload₀ word₀ bins₀ r total mark found₀ q₀ payload word bins found q = total - q
+abbrev decreases-loop-q : tie.decreases-loop-q
+decreases-loop-q m arikan map pairs soft cols payload₀ word₀ bins₀ r total mark found₀ q₀ payload word bins found q = total - q
 
-loop_holds : tie.Need-loop-init invariant-loop decreases-loop
+loop_holds : tie.Need-loop-q-init invariant-loop-q decreases-loop-q
 loop_holds c =
     let a = c.before.before.before.before.before.before.args in
     passing_none (code a.m a.arikan a.map.now a.pairs.now) a.soft.now (to_z w32 (of_z w32 a.mark)) a.r a.payload.now a.word.now a.bins.now
 
-module _ (c : tie.In-loop invariant-loop decreases-loop) where
-  abbrev start : tie.Start invariant-loop decreases-loop
+module _ (c : tie.In-loop-q invariant-loop-q decreases-loop-q) where
+  abbrev start : tie.Start invariant-loop-q decreases-loop-q
   start = c.before.before.before.before.before.before.before.before
 
   abbrev of : Code
   of = code start.args.m start.args.arikan start.args.map.now start.args.pairs.now
 
-  ahead : c.before.loop.q < 2 ^ payload_size of
-  ahead = omega (arith, c.loop-test.true, start.pre.1)
+  ahead : c.before.loop-q.q < 2 ^ payload_size of
+  ahead = omega (arith, c.loop-q-test.true, start.requires.1)
 
   same_mark : to_z w32 (of_z w32 start.args.mark) ≡ start.args.mark
-  same_mark = to_z-of_z w32 start.args.mark start.fits.mark
+  same_mark = to_z-of_z w32 start.args.mark start.ranges.mark
 
-count_turn_requires : tie.Need-count-turn-requires invariant-loop decreases-loop
+count_turn_requires : tie.Need-count_turn-found-requires invariant-loop-q decreases-loop-q
 count_turn_requires c κs =
     let t = c.before.before.before in
     let s = start t in
-    let i = t.before.loop.invariant in
-    (turn_fits s.pre.0 i, i.multiple, turn_inside s.pre.0 i (ahead t))
+    let i = t.before.loop-q.invariant in
+    (turn_fits s.requires.0 i, i.multiple, turn_inside s.requires.0 i (ahead t))
 
-add_found : tie.Need-overflow-add-found invariant-loop decreases-loop
+add_found : tie.Need-overflow_add-found invariant-loop-q decreases-loop-q
 add_found c =
     let k = c.before.before.before.before.before.before in
     let t = k.before.before.before.before in
-    omega (arith, k.count_turn.ensures, sum_small (start t).requires.0 t.before.loop.invariant (ahead t) (to_z w32 (of_z w32 (start t).args.mark)))
+    omega (arith, k.count_turn-found.ensures, sum_small (start t).requires.0 t.before.loop-q.invariant (ahead t) (to_z w32 (of_z w32 (start t).args.mark)))
 
-add_q : tie.Need-overflow-add-q invariant-loop decreases-loop
+add_q : tie.Need-overflow_add-q invariant-loop-q decreases-loop-q
 add_q c =
     let k = c.before.before.before.before.before.before in
     let t = k.before.before.before.before in
-    omega (arith, next_small (start t).requires.0 t.before.loop.invariant (ahead t) k.count_turn.auto.1.1.1.1.1.1.1.1.0)
+    omega (arith, next_small (start t).requires.0 t.before.loop-q.invariant (ahead t) k.count_turn-found.auto.1.1.1.1.1.1.1.1.0)
 
-loop_less : tie.Need-loop-smaller invariant-loop decreases-loop
+loop_less : tie.Need-loop-q-smaller invariant-loop-q decreases-loop-q
 loop_less c =
     let k = c.before.before.before.before.before.before in
     let t = k.before.before.before.before in
-    omega (arith, (start t).requires.1, next_further (start t).requires.0 t.before.loop.invariant (ahead t) k.count_turn.auto.1.1.1.1.1.1.1.1.0)
+    omega (arith, (start t).requires.1, next_further (start t).requires.0 t.before.loop-q.invariant (ahead t) k.count_turn-found.auto.1.1.1.1.1.1.1.1.0)
 
-loop_again : tie.Need-loop-preserved invariant-loop decreases-loop
+loop_again : tie.Need-loop-q-preserved invariant-loop-q decreases-loop-q
 loop_again c =
     let k = c.before.before.before.before.before.before in
     let t = k.before.before.before.before in
-    let i = t.before.loop.invariant in
-    passing_turn (start t).requires.0 i (ahead t) k.count_turn.auto.1.1.1.1.1.1.0 k.count_turn.auto.1.1.1.1.1.1.1.0 k.count_turn.auto.1.1.1.1.1.1.1.1.0
-    (ap (λ (j : ℕ). t.before.loop.found + j) k.count_turn.ensures)
+    let i = t.before.loop-q.invariant in
+    passing_turn (start t).requires.0 i (ahead t) k.count_turn-found.auto.1.1.1.1.1.1.0 k.count_turn-found.auto.1.1.1.1.1.1.1.0 k.count_turn-found.auto.1.1.1.1.1.1.1.1.0
+    (ap (λ (j : ℕ). t.before.loop-q.found + j) k.count_turn-found.ensures)
 
-same_length : tie.Need-same-length invariant-loop decreases-loop
+same_length : tie.Need-shape_of-payload invariant-loop-q decreases-loop-q
 same_length c = search rules
 
-same_length_2 : tie.Need-same-length-2 invariant-loop decreases-loop
+same_length_2 : tie.Need-shape_of-word invariant-loop-q decreases-loop-q
 same_length_2 c = search rules
 
-same_length_3 : tie.Need-same-length-3 invariant-loop decreases-loop
+same_length_3 : tie.Need-shape_of-bins invariant-loop-q decreases-loop-q
 same_length_3 c = search rules
 
-returns : tie.Need-returns invariant-loop decreases-loop
+returns : tie.Need-returns invariant-loop-q decreases-loop-q
 returns c =
     let l = c.before in
     let s = l.before.before.before.before.before.before.before in
     let of : Code = code s.args.m s.args.arikan s.args.map.now s.args.pairs.now in
-    subst (λ (z : ℤ). l.loop.found ≡ length (hits z 0 (correlations of (taken s.args.soft.now)))) (to_z-of_z w32 s.args.mark s.ranges.mark)
-    (passing_done s.requires.0 l.loop.invariant (omega (arith, c.loop-test.false, s.requires.1)))
+    subst (λ (z : ℤ). l.loop-q.found ≡ length (hits z 0 (correlations of (taken s.args.soft.now)))) (to_z-of_z w32 s.args.mark s.ranges.mark)
+    (passing_done s.requires.0 l.loop-q.invariant (omega (arith, c.loop-q-test.false, s.requires.1)))
 
 pub count_words_spec : {M : Type 1} → statement M
 count_words_spec =
     tie.close
     (tie.spec
-    invariant-loop
-    decreases-loop
+    invariant-loop-q
+    decreases-loop-q
     loop_holds
     count_turn_requires
     add_found

@@ -26,7 +26,7 @@ lent s =
     ∷ []
 
 -- the tests, over n
-module _ (c : tie.After-rows-short2) where
+module _ (c : tie.After-rows_short-few_words) where
   abbrev start : tie.Start
   start = c.before.before.before
 
@@ -37,71 +37,71 @@ module _ (c : tie.After-rows-short2) where
   bytes_are = let e : byte_room start.args.n 1 ≡ 4 * start.args.n + 256 = omega arith in ap (ltb start.args.bytes) e
 
   -- past the soft values the rest decides
-  decided : c.before.before.soft-refusal.result ≡ 0 → (k : ℕ) → First (lent start) k → k ≡ first (values start ++ lent start)
+  decided : c.before.before.soft_refusal-values.result ≡ 0 → (k : ℕ) → First (lent start) k → k ≡ first (values start ++ lent start)
   decided z k f =
-      first_after (values start) (lent start) c.before.before.soft-refusal.result c.before.before.soft-refusal.ensures
+      first_after (values start) (lent start) c.before.before.soft_refusal-values.result c.before.before.soft_refusal-values.ensures
       (next (next end)) z k (is_first (lent start) k f)
 
-module _ (c : tie.Else2) where
-  abbrev past : tie.After-rows-short2
+module _ (c : tie.Else-few_numbers) where
+  abbrev past : tie.After-rows_short-few_words
   past = c.before.before
 
   numbers_enough : ltb (start past).args.numbers (number_room (start past).args.n 1) ≡ false
-  numbers_enough = numbers_are past ∙ c.if2.left
+  numbers_enough = numbers_are past ∙ c.if-few_numbers.false
 
-mul_few_numbers : tie.Need-mul-few-numbers
+mul_few_numbers : tie.Need-overflow_mul-few_numbers
 mul_few_numbers c = search rules
 
-mul_few_bytes : tie.Need-mul-few-bytes
+mul_few_bytes : tie.Need-overflow_mul-few_bytes
 mul_few_bytes c = search rules
 
-add_few_bytes : tie.Need-add-few-bytes
+add_few_bytes : tie.Need-overflow_add-few_bytes
 add_few_bytes c = search rules
 
-soft_refusal_requires : tie.Need-soft-refusal-requires
+soft_refusal_requires : tie.Need-soft_refusal-values-requires
 soft_refusal_requires c κs = search rules
 
-rows_short_requires : tie.Need-rows-short-requires
-rows_short_requires c κs = c.before.pre.0
+rows_short_requires : tie.Need-rows_short-few_inputs-requires
+rows_short_requires c κs = c.before.requires.0
 
-rows_short_requires_2 : tie.Need-rows-short-requires-2
-rows_short_requires_2 c κs = c.before.before.pre.0
+rows_short_requires_2 : tie.Need-rows_short-few_words-requires
+rows_short_requires_2 c κs = c.before.before.requires.0
 
-returns : tie.Need-returns
+returns : tie.Need-returns-then-values-ne0
 returns c =
     let o = c.before in
-    first_before (values (start o)) (lent (start o)) o.before.before.soft-refusal.result o.before.before.soft-refusal.ensures c.if1.taken
+    first_before (values (start o)) (lent (start o)) o.before.before.soft_refusal-values.result o.before.before.soft_refusal-values.ensures c.if-values-ne0.true
 
-returns_2 : tie.Need-returns-2
-returns_2 c = let o = c.before.before in decided o c.before.if1.left 8 (here (numbers_are o ∙ c.if2.taken))
+returns_2 : tie.Need-returns-then-few_numbers
+returns_2 c = let o = c.before.before in decided o c.before.if-values-ne0.false 8 (here (numbers_are o ∙ c.if-few_numbers.true))
 
-returns_3 : tie.Need-returns-3
+returns_3 : tie.Need-returns-then-few_bytes
 returns_3 c =
     let e = c.before in
-    decided (past e) e.before.if1.left 9 (later (numbers_enough e) (here (bytes_are (past e) ∙ c.if3.taken)))
+    decided (past e) e.before.if-values-ne0.false 9 (later (numbers_enough e) (here (bytes_are (past e) ∙ c.if-few_bytes.true)))
 
-returns_4 : tie.Need-returns-4
+returns_4 : tie.Need-returns-then-few_inputs
 returns_4 c =
     let e = c.before.before in
     let o = past e in
-    decided o e.before.if1.left 10
-    (later (numbers_enough e) (later (bytes_are o ∙ c.before.if3.left) (here (sym o.before.rows_short.ensures ∙ c.if4.taken))))
+    decided o e.before.if-values-ne0.false 10
+    (later (numbers_enough e) (later (bytes_are o ∙ c.before.if-few_bytes.false) (here (sym o.before.rows_short-few_inputs.ensures ∙ c.if-few_inputs.true))))
 
-returns_5 : tie.Need-returns-5
+returns_5 : tie.Need-returns-then-few_words
 returns_5 c =
     let e = c.before.before.before in
     let o = past e in
-    decided o e.before.if1.left 10
-    (later (numbers_enough e) (later (bytes_are o ∙ c.before.before.if3.left)
-    (later (sym o.before.rows_short.ensures ∙ c.before.if4.left) (here (sym o.rows-short2.ensures ∙ c.if5.taken)))))
+    decided o e.before.if-values-ne0.false 10
+    (later (numbers_enough e) (later (bytes_are o ∙ c.before.before.if-few_bytes.false)
+    (later (sym o.before.rows_short-few_inputs.ensures ∙ c.before.if-few_inputs.false) (here (sym o.rows_short-few_words.ensures ∙ c.if-few_words.true)))))
 
-returns_6 : tie.Need-returns-6
+returns_6 : tie.Need-returns
 returns_6 c =
     let e = c.before.before.before in
     let o = past e in
-    decided o e.before.if1.left 0
-    (later (numbers_enough e) (later (bytes_are o ∙ c.before.before.if3.left)
-    (later (sym o.before.rows_short.ensures ∙ c.before.if4.left) (later (sym o.rows-short2.ensures ∙ c.if5.left) none))))
+    decided o e.before.if-values-ne0.false 0
+    (later (numbers_enough e) (later (bytes_are o ∙ c.before.before.if-few_bytes.false)
+    (later (sym o.before.rows_short-few_inputs.ensures ∙ c.before.if-few_inputs.false) (later (sym o.rows_short-few_words.ensures ∙ c.if-few_words.false) none))))
 
 pub room_refusal_spec : {M : Type 1} → statement M
 room_refusal_spec =

@@ -22,7 +22,7 @@ quotient_below b n p h = go (ltb (b / n) p) refl
         let up : p * n ≤ b / n * n = mul-le-mul_right n (ltb-false (b / n) p e) in
         sym (le-ltb b (n * p) (omega (arith, up, mul_comm n p, div-add-mod' b n)))
 
-div_result : tie.Need-nonzero-div-result
+div_result : tie.Need-nonzero_div-result
 div_result c = search rules
 
 returns : tie.Need-returns

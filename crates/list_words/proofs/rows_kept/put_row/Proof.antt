@@ -18,7 +18,7 @@ use Rattle.list_words.specs.Hits.{input_at, word_at}
 use Rattle.list_words.proofs.rows_kept.put_row.Statement.{statement}
 use Rattle.list_words.proofs.rows_kept.put_row.Tie as tie
 
-module _ (c : tie.After-put-payload) where
+module _ (c : tie.After-put_payload) where
   abbrev start : tie.Start
   start = c.before.before.before.before.before.before.before
 
@@ -30,58 +30,58 @@ module _ (c : tie.After-put-payload) where
 
   -- the payload once it is put
   put_is : c.put_payload.new.0 ≡ p
-  put_is = c.put_payload.ensures ∙ ap (λ (k : ℕ). numeral k start.args.q) start.pre.0.payload_long
+  put_is = c.put_payload.ensures ∙ ap (λ (k : ℕ). numeral k start.args.q) start.requires.0.payload_long
 
   flags : flags_of (length start.args.input.now) start.args.map.now ≡ frozen of
   flags =
       flags_are start.args.m (length start.args.input.now) start.args.arikan start.args.map.now start.args.pairs.now
-      start.pre.0.word_long
+      start.requires.0.word_long
 
-put_payload_requires : tie.Need-put-payload-requires
+put_payload_requires : tie.Need-put_payload-requires
 put_payload_requires c κs = search rules
 
-fill_input_requires : tie.Need-fill-input-requires
+fill_input_requires : tie.Need-fill_input-requires
 fill_input_requires c κs =
     let a = c.before.before.before.before in
     let s = start a in
-    let b : 2 ^ s.args.m ≤ 8 * length s.args.map.now = enough_bits (2 ^ s.args.m) s.args.map.now s.pre.0.accepts.bytes in
-    let e : length s.args.input.now ≡ 2 ^ s.args.m = s.pre.0.word_long in (
+    let b : 2 ^ s.args.m ≤ 8 * length s.args.map.now = enough_bits (2 ^ s.args.m) s.args.map.now s.requires.0.accepts.bytes in
+    let e : length s.args.input.now ≡ 2 ^ s.args.m = s.requires.0.word_long in (
       omega arith,
       ap clear (flags a) ∙ sym (ap length (put_is a) ∙ length_numeral (payload_size (of a)) s.args.q),
-      subst (λ (fs : List ℕ). Ruled fs s.args.pairs.now) (sym (flags a)) s.pre.0.accepts.ruled,
+      subst (λ (fs : List ℕ). Ruled fs s.args.pairs.now) (sym (flags a)) s.requires.0.accepts.ruled,
     )
 
 -- the input once it is filled
-module _ (f : tie.After-fill-input) where
-  abbrev put : tie.After-put-payload
+module _ (f : tie.After-fill_input) where
+  abbrev put : tie.After-put_payload
   put = f.before.before.before.before.before
 
-  input_is : f.fill-input.last.1.1.1.0 ≡ input_for (of put) (p put)
+  input_is : f.fill_input.last.1.1.1.0 ≡ input_for (of put) (p put)
   input_is =
-      f.fill-input.ensures (start put).args.m (start put).args.arikan (start put).pre.0.word_long
+      f.fill_input.ensures (start put).args.m (start put).args.arikan (start put).requires.0.word_long
       ∙ ap (input_for (of put)) (put_is put)
 
-put_word_requires : tie.Need-put-word-requires
+put_word_requires : tie.Need-put_word-requires
 put_word_requires c κs =
     let f = c.before.before.before.before in
     let s = start (put f) in
-    let long : length f.fill-input.new.1.1.1.0 ≡ 2 ^ s.args.m = f.fill-input.auto.1.1.1.0 ∙ s.pre.0.word_long in (
-      s.pre.1 ∙ sym f.fill-input.auto.1.1.1.0,
+    let long : length f.fill_input.new.1.1.1.0 ≡ 2 ^ s.args.m = f.fill_input.auto.1.1.1.0 ∙ s.requires.0.word_long in (
+      s.requires.1 ∙ sym f.fill_input.auto.1.1.1.0,
       record {
-        least = s.pre.0.accepts.low;
-        most = s.pre.0.accepts.high;
+        least = s.requires.0.accepts.low;
+        most = s.requires.0.accepts.high;
         long = long;
         bits = subst Bits (sym (input_is f)) (bits_input (of (put f)) (bits_numeral (payload_size (of (put f))) s.args.q));
       },
     )
 
-same_length : tie.Need-same-length
+same_length : tie.Need-shape_of-payload
 same_length c = search rules
 
-same_length_2 : tie.Need-same-length-2
+same_length_2 : tie.Need-shape_of-input
 same_length_2 c = search rules
 
-same_length_3 : tie.Need-same-length-3
+same_length_3 : tie.Need-shape_of-word
 same_length_3 c = search rules
 
 returns : tie.Need-returns

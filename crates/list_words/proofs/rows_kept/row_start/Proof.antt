@@ -9,7 +9,7 @@ use Rattle.list_words.proofs.rows_kept.row_start.Tie as tie
 small : (a b : ℕ) → a ≤ 1024 → b ≤ 1048576 → a * b ≤ 1073741824
 small a b h k = mul-le-mul h k
 
-mul_result : tie.Need-overflow-mul-result
+mul_result : tie.Need-overflow_mul-result
 mul_result c = omega (arith, small c.args.n c.args.i (omega arith) (omega arith))
 
 returns : tie.Need-returns

@@ -50,13 +50,13 @@ start c = c.before.before.before.before.before.before.before.before.before
 
 correlate_requires : tie.Need-correlate-requires
 correlate_requires c κs =
-    let w = c.before.before.before.before.before.before in
+    let w = c.before.before.before.before.before in
     let s = start w in
     record {
       bins_long = s.requires.0.bins_long;
       half = ap (λ (k : ℕ). k / 2) s.requires.0.bins_long;
       cols_long = cols_long s;
-      word_long = w.put_word.auto.1.1.1.1.1.0 ∙ s.requires.0.lent.word_long ∙ sym s.requires.0.soft_long;
+      word_long = w.put_word.auto.word ∙ s.requires.0.lent.word_long ∙ sym s.requires.0.soft_long;
       cols_below = cols_below s;
       in_range = s.requires.0.in_range;
     }
@@ -73,7 +73,7 @@ same_length_3 c = search rules
 returns : tie.Need-returns
 returns c =
     let d = c.before.before in
-    let w = d.before.before.before.before.before.before.before in
+    let w = d.before.before.before.before.before.before in
     let s = start w in
     let y : List ℤ = taken s.args.soft.now in
     let first : List ℕ = encoded (of s) (numeral (payload_size (of s)) s.args.q) in

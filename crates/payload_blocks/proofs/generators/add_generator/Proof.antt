@@ -24,10 +24,7 @@ same_length_3 c = search rules
 
 returns : tie.Need-returns
 returns c =
-    let a = c.before.before in
-    let w = a.before.before.before.before.before.before.before in
-    let s = w.before.before.before.before.before.before.before in
-    a.add_column.ensures ∙ ap (λ (g : List ℕ). weighed s.args.h g s.args.cols.now) w.put_word.ensures
+    c.add_column.ensures ∙ ap (λ (g : List ℕ). weighed c.args.h g c.args.cols.now) c.put_word.ensures
 
 pub add_generator_spec : {M : Type 1} → statement M
 add_generator_spec =

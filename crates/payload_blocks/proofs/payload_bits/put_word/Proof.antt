@@ -26,7 +26,7 @@ put_payload_requires c κs = search rules
 
 write_word_requires : tie.Need-write_word-requires
 write_word_requires c κs =
-    let p = c.before.before.before.before in
+    let p = c.before.before.before in
     let s = start p in (
       s.requires.word_long,
       record {
@@ -45,7 +45,7 @@ same_length_2 c = search rules
 returns : tie.Need-returns
 returns c =
     let w = c.before.before in
-    let p = w.before.before.before.before.before in
+    let p = w.before.before.before.before in
     w.write_word.ensures ∙ ap (encoded (of p)) (put_is p)
 
 pub put_word_spec : {M : Type 1} → statement M

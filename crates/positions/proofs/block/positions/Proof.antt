@@ -48,7 +48,7 @@ own_bits_requires c κs =
     let a = s.args in
     let k = e.before.before.loop-i in (
       own_fits a.arikan a.deep a.l a.h a.n a.p (length a.rows.now) a.map.now a.pairs.now a.t.now a.b.now s.requires
-          k.i k.at k.from k.auto.seen k.auto.held (length k.rows) k.t k.b k.slots k.s k.invariant.1 (inside e),
+          k.i k.at k.from k.kept.seen k.kept.held (length k.rows) k.t k.b k.slots k.s k.invariant.1 (inside e),
       e.run_end-to.ensures.0,
       k.invariant.1.standing.few,
       refl,
@@ -65,7 +65,7 @@ position_requires c κs =
     let a = s.args in
     let k = e.before.before.loop-i in (
       position_fits a.arikan a.deep a.l a.h a.n a.p (length a.rows.now) a.map.now a.pairs.now a.t.now a.b.now s.requires
-          k.i k.at k.from k.auto.seen k.auto.held (length k.rows) k.t k.b k.slots k.s k.invariant.1 (inside e) _ o.own_bits-kept.auto.0,
+          k.i k.at k.from k.kept.seen k.kept.held (length k.rows) k.t k.b k.slots k.s k.invariant.1 (inside e) _ o.own_bits-kept.auto.b,
       k.invariant.1.standing,
     )
 
@@ -78,7 +78,7 @@ add_at c =
     omega (
       arith,
       next_room a.arikan a.deep a.l a.h a.n a.p (length a.rows.now) a.map.now a.pairs.now a.t.now a.b.now s.requires
-          k.i k.at k.from k.auto.seen k.auto.held (length k.rows) k.t k.b k.slots k.s k.invariant.1 (inside e),
+          k.i k.at k.from k.kept.seen k.kept.held (length k.rows) k.t k.b k.slots k.s k.invariant.1 (inside e),
     )
 
 add_i : tie.Need-overflow_add-i invariant-loop-i decreases-loop-i
@@ -103,9 +103,9 @@ loop_again c =
     let m = q.position-s in (
       w.auto.rows ∙ k.invariant.0,
       looping_more a.arikan a.deep a.l a.h a.n a.p (length a.rows.now) a.map.now a.pairs.now a.t.now a.b.now s.requires
-          k.i k.at k.from k.auto.seen k.auto.held (length k.rows) k.t k.b k.slots k.s k.invariant.1 (inside e)
-          e.run_end-to.result e.run_end-to.ensures.0 e.run_end-to.ensures.1 w.result.seen w.result.held w.new.0 _ w.auto.0 w.ensures
-          m.new.0 m.new.1.0 m.new.1.1.0 _ m.result w.auto.1.0 m.auto.0 m.auto.1.0 m.auto.1.1.0
+          k.i k.at k.from k.kept.seen k.kept.held (length k.rows) k.t k.b k.slots k.s k.invariant.1 (inside e)
+          e.run_end-to.result e.run_end-to.ensures.0 e.run_end-to.ensures.1 w.result.seen w.result.held w.new.b _ w.auto.b w.ensures
+          m.new.t m.new.b m.new.slots _ m.result w.auto.rows m.auto.t m.auto.b m.auto.slots
           m.ensures.0 m.ensures.1 m.ensures.2,
     )
 
@@ -122,7 +122,7 @@ returns : tie.Need-returns invariant-loop-i decreases-loop-i
 returns c =
     let k = c.before in
     let a = k.before.before.before.before.before.before.before.args in
-    looping_end a.arikan a.deep a.l a.h a.n a.p k.loop-i.i k.loop-i.at k.loop-i.from k.loop-i.auto.seen k.loop-i.auto.held (length k.loop-i.rows) a.map.now a.pairs.now a.t.now a.b.now
+    looping_end a.arikan a.deep a.l a.h a.n a.p k.loop-i.i k.loop-i.at k.loop-i.from k.loop-i.kept.seen k.loop-i.kept.held (length k.loop-i.rows) a.map.now a.pairs.now a.t.now a.b.now
     k.loop-i.t k.loop-i.b k.loop-i.slots k.loop-i.s (omega (arith, k.loop-i.invariant.1.near, c.loop-i-test.false)) k.loop-i.invariant.1
 
 pub positions_spec : {M : Type 1} → statement M

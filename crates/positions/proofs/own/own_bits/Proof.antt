@@ -34,15 +34,14 @@ renew_requires c κs = search rules
 
 sum_rows_requires : tie.Need-sum_rows-requires
 sum_rows_requires c κs =
-    let s = c.before.before.before.before.before.before.before.before.before.before.before.before in
-    let f = s.requires.0 in
-    let few : s.args.n * s.args.count ≤ s.args.n * s.args.l = mul-le-mul_left s.args.n s.requires.2 in (
-      s.requires.1,
-      omega (arith, s.requires.2, f.list),
+    let f = c.requires.0 in
+    let few : c.args.n * c.args.count ≤ c.args.n * c.args.l = mul-le-mul_left c.args.n c.requires.2 in (
+      c.requires.1,
+      omega (arith, c.requires.2, f.list),
       f.stop,
       f.size,
-      omega (arith, few, f.wide, c.before.before.before.before.before.before.renew.auto.1.0),
-      ap length s.requires.3 ∙ length-replicate {A = ℕ} 32 0,
+      omega (arith, few, f.wide, c.renew.auto.rows),
+      ap length c.requires.3 ∙ length-replicate {A = ℕ} 32 0,
     )
 
 same_length : tie.Need-shape_of-b
@@ -53,17 +52,15 @@ same_length_2 c = search rules
 
 returns_2 : tie.Need-returns
 returns_2 c =
-    let r = c.before.before.before.before.before.before.before in
-    let s = r.before.before.before.before.before.before in
-    let a = s.args in
+    let a = c.args in
     record {
-      few = s.requires.2;
+      few = c.requires.2;
       order = omega arith;
-      front = r.renew.ensures.front;
-      kept = r.renew.ensures.kept;
+      front = c.renew.ensures.front;
+      kept = c.renew.ensures.kept;
       sums = λ rows over k w hk t.
-          written (own_sum a.from a.i a.n a.pairs.now r.renew.new.1.0) a.count a.bits.now _ (c.sum_rows.ensures over) k hk
-          ∙ ap (sum_at (pairs_in (drop a.from a.pairs.now)) a.i) (r.renew.ensures.fresh rows k w hk t);
+          written (own_sum a.from a.i a.n a.pairs.now c.renew.new.rows) a.count a.bits.now _ (c.sum_rows.ensures over) k hk
+          ∙ ap (sum_at (pairs_in (drop a.from a.pairs.now)) a.i) (c.renew.ensures.fresh rows k w hk t);
     }
 
 pub own_bits_spec : {M : Type 1} → statement M

@@ -33,10 +33,8 @@ part_renew_rows_end c = search rules
 
 renew_rows_requires : tie.Need-renew_rows-requires
 renew_rows_requires c κs =
-    let t = c.before.before.before.before in
-    let s = t.before.before in
-    let a = s.args in
-    let f = s.requires.0 in
+    let a = c.args in
+    let f = c.requires.0 in
     let k : ℕ = 3 * a.h in
     let long : length (take (length a.b.now - k) (drop k a.b.now)) ≡ length a.b.now - k
     = ap length (part_is k a.b.now) ∙ length-drop k a.b.now in (
@@ -47,39 +45,32 @@ renew_rows_requires c κs =
         order = f.order;
         stop = f.stop;
         past_is = omega (arith, f.place);
-        kept_is = t.times-notes.ensures.0;
+        kept_is = c.times-notes.ensures.0;
         there = omega (arith, long, f.there, f.place);
-        room = omega (arith, long, f.room, t.times-notes.ensures.0);
+        room = omega (arith, long, f.room, c.times-notes.ensures.0);
       },
-      s.requires.1,
-      omega (arith, f.wide, rows_less a.n a.l a.count (a.n * a.count) s.requires.1 refl),
+      c.requires.1,
+      omega (arith, f.wide, rows_less a.n a.l a.count (a.n * a.count) c.requires.1 refl),
     )
 
 add_from : tie.Need-overflow_add-from
 add_from c = search rules
 
 -- ---- what is known once the rows are brought up: how many bytes they have
-abbrev start : tie.After-renew_rows → tie.Start
-start c = c.before.before.before.before.before.before.before
-
 abbrev bytes : tie.After-renew_rows → ℕ
-bytes c = c.before.before.before.before.times-bytes.result
+bytes c = c.times-bytes.result
 
-less : (c : tie.After-renew_rows) → bytes c ≤ (start c).args.n * (start c).args.l
-less c =
-    let a = (start c).args in
-    rows_less a.n a.l a.count (bytes c) (start c).requires.1 c.before.before.before.before.times-bytes.ensures.0
+less : (c : tie.After-renew_rows) → bytes c ≤ c.args.n * c.args.l
+less c = rows_less c.args.n c.args.l c.args.count (bytes c) c.requires.1 c.times-bytes.ensures.0
 
-part_long : (c : tie.After-renew_rows) → length (take (bytes c) c.renew_rows.new.0) ≡ bytes c
-part_long c = length-take-le _ _ (omega (arith, c.renew_rows.auto.0, (start c).requires.0.wide, less c))
+part_long : (c : tie.After-renew_rows) → length (take (bytes c) c.renew_rows.new.rows) ≡ bytes c
+part_long c = length-take-le _ _ (omega (arith, c.renew_rows.auto.rows, c.requires.0.wide, less c))
 
 slice_reshare_prefix_copy : tie.Need-slice_bounds-copy-end
-slice_reshare_prefix_copy c =
-    let r = c.before.before in
-    omega (arith, r.renew_rows.auto.rows, (start r).requires.0.wide, less r)
+slice_reshare_prefix_copy c = omega (arith, c.renew_rows.auto.rows, c.requires.0.wide, less c.before.before)
 
 slice_aggregate_copy : tie.Need-slice_bounds-copy-end-2
-slice_aggregate_copy c = sym (part_long c.before.before.before)
+slice_aggregate_copy c = sym (part_long c.before.before)
 
 add_copy : tie.Need-overflow_add-from-2
 add_copy c = search rules
@@ -90,19 +81,15 @@ sub_copy c = search rules
 part_copy_start : tie.Need-slice_bounds-copy-start
 part_copy_start c = search rules
 
-part_copy_end : tie.Need-slice_bounds-copy-end
-part_copy_end c =
-    let r = c.before.before.before in
-    omega (arith, (start r).requires.0.room, r.before.before.before.before.before.times-notes.ensures.0, less r)
+part_copy_end : tie.Need-slice_bounds-copy-end-3
+part_copy_end c = omega (arith, c.requires.0.room, c.times-notes.ensures.0, less c.before.before)
 
 copy_requires : tie.Need-copy-requires
 copy_requires c κs =
-    let r = c.before.before.before.before in
-    let a = (start r).args in
-    let t = r.before.before.before.before.before.times-notes in
-    let from : ℕ = 3 * a.h + t.result in
+    let r = c.before.before.before in
+    let from : ℕ = 3 * c.args.h + c.times-notes.result in
     let k : from + bytes r - from ≡ bytes r = omega arith in
-    length-take-le (from + bytes r - from) (drop from a.b.now) (omega (arith, (start r).requires.0.room, t.ensures.0, less r, length-drop from a.b.now)) ∙ k ∙ sym (part_long r)
+    length-take-le (from + bytes r - from) (drop from c.args.b.now) (omega (arith, c.requires.0.room, c.times-notes.ensures.0, less r, length-drop from c.args.b.now)) ∙ k ∙ sym (part_long r)
 
 same_length : tie.Need-shape_of-b
 same_length c = search rules
@@ -112,16 +99,13 @@ same_length_2 c = search rules
 
 returns : tie.Need-returns
 returns c =
-    let y = c.before.before in
-    let r = y.before.before.before.before.before in
-    let s = start r in
-    let a = s.args in
-    let t = r.before.before.before.before.before.times-notes in
-    let from : ℕ = 3 * a.h + t.result in
-    renewed a.l a.h a.n a.i a.kept.seen a.kept.held a.count a.at t.result (bytes r) a.b.now r.renew_rows.new.0
-    (subst (OwnFits a.l a.h a.n a.i a.kept.seen a.kept.held a.at (length a.b.now)) (sym r.renew_rows.auto.0) s.requires.0)
-    s.requires.1 t.ensures.0 r.before.before.before.before.times-bytes.ensures.0
-    (from + bytes r - from) (take (length a.b.now - 3 * a.h) (drop (3 * a.h) a.b.now)) y.copy.new.1.0 (part_is (3 * a.h) a.b.now) (omega arith) y.copy.ensures r.renew_rows.ensures
+    let a = c.args in
+    let from : ℕ = 3 * a.h + c.times-notes.result in
+    let bytes : ℕ = c.times-bytes.result in
+    renewed a.l a.h a.n a.i a.kept.seen a.kept.held a.count a.at c.times-notes.result bytes a.b.now c.renew_rows.new.rows
+    (subst (OwnFits a.l a.h a.n a.i a.kept.seen a.kept.held a.at (length a.b.now)) (sym c.renew_rows.auto.rows) c.requires.0)
+    c.requires.1 c.times-notes.ensures.0 c.times-bytes.ensures.0
+    (from + bytes - from) (take (length a.b.now - 3 * a.h) (drop (3 * a.h) a.b.now)) c.copy.new.to (part_is (3 * a.h) a.b.now) (omega arith) c.copy.ensures c.renew_rows.ensures
 
 pub renew_spec : {M : Type 1} → statement M
 renew_spec =

@@ -63,14 +63,14 @@ add_r : tie.Need-overflow_add-r invariant-loop-r decreases-loop-r
 add_r c = search rules
 
 add_at : tie.Need-overflow_add-at-in-loop-r invariant-loop-r decreases-loop-r
-add_at c = omega (arith, inside c.before.before)
+add_at c = omega (arith, inside c.before.before.before)
 
 loop_less : tie.Need-loop-r-smaller invariant-loop-r decreases-loop-r
 loop_less c = search rules
 
 loop_again : tie.Need-loop-r-preserved invariant-loop-r decreases-loop-r
 loop_again c =
-    let t = c.before.before in
+    let t = c.before.before.before in
     let l = t.before.loop-r in
     let s = start t in
     let a = s.args in

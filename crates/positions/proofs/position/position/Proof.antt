@@ -75,7 +75,7 @@ returns c =
     let f = s.requires.0 in
     let bb = ad.new.b in
     let rest = drop (3 * s.args.h) st.new.b in
-    let lb : length bb ≡ 3 * s.args.h = ad.auto.b ∙ length-take-le (3 * s.args.h) st.new.0 (omega (arith, st.auto.0, f.place, f.room)) in (
+    let lb : length bb ≡ 3 * s.args.h = ad.auto.b ∙ length-take-le (3 * s.args.h) st.new.b (omega (arith, st.auto.b, f.place, f.room)) in (
       record { few = ch.ensures.position.holds.few; long = ch.ensures.position.holds.counted; named = ad.ensures.0 },
       beside _ (3 * s.args.h) s.args.at s.args.l ch.result.count s.args.b.now st.ensures.b₁ (bb ++ rest) ch.ensures.position.holds.few (omega (arith, f.place))
           st.ensures.noted (drop_at bb rest (3 * s.args.h) lb ∙ st.ensures.history),
@@ -84,11 +84,11 @@ returns c =
           let chosen = subst (λ (m : List ℕ). Chosen (get_or (unpacked m) s.args.i 0) s.args.i s.args.l s.args.h s.args.t.now (take (3 * s.args.h) s.args.b.now) s.args.slots.now s.args.bits.now s.args.s ch.result) (sym em) ch.ensures in
           let st' = chosen_step c' y s.args.deep s.args.l s.args.h s.args.i s.args.s ch.result s.args.t.now s.args.b.now s.args.slots.now run hi s.args.bits.now owns chosen in
           let lost = chosen_lost c' y s.args.deep s.args.l s.args.h s.args.i s.args.s ch.result s.args.t.now s.args.b.now s.args.slots.now run hi s.args.bits.now owns chosen in
-          running_more c' y s.args.deep s.args.l s.args.h s.args.i s.args.at s.args.s ch.result s.args.t.now s.args.b.now s.args.slots.now st.new.0 st.new.1.0 ad.new.0 (bb ++ rest) ad.new.1.1.0
+          running_more c' y s.args.deep s.args.l s.args.h s.args.i s.args.at s.args.s ch.result s.args.t.now s.args.b.now s.args.slots.now st.new.b st.new.slots ad.new.t (bb ++ rest) ad.new.slots
           f.sizes.list s.requires.1.few ch.ensures.position.holds.few ch.ensures.position.holds.counted
           (top_low s.args.deep s.args.l s.args.h s.args.n s.args.i s.args.at s.args.t.now s.args.b.now s.args.slots.now s.args.map.now s.requires.0) f.place hi run st' lost st.ensures
-          (subst (λ (a : Bool). Advance a s.args.deep s.args.l s.args.h ch.result.count s.args.i s.args.t.now (take (3 * s.args.h) st.new.0) st.new.1.0 ad.new.0 (take (3 * s.args.h) (bb ++ rest)) ad.new.1.1.0) (sym ea)
-          (subst (λ (z : List ℕ). Advance s.args.arikan s.args.deep s.args.l s.args.h ch.result.count s.args.i s.args.t.now (take (3 * s.args.h) st.new.0) st.new.1.0 ad.new.0 z ad.new.1.1.0) (sym (take_at bb rest (3 * s.args.h) lb)) ad.ensures.2))
+          (subst (λ (a : Bool). Advance a s.args.deep s.args.l s.args.h ch.result.count s.args.i s.args.t.now (take (3 * s.args.h) st.new.b) st.new.slots ad.new.t (take (3 * s.args.h) (bb ++ rest)) ad.new.slots) (sym ea)
+          (subst (λ (z : List ℕ). Advance s.args.arikan s.args.deep s.args.l s.args.h ch.result.count s.args.i s.args.t.now (take (3 * s.args.h) st.new.b) st.new.slots ad.new.t z ad.new.slots) (sym (take_at bb rest (3 * s.args.h) lb)) ad.ensures.2))
           ad.ensures.1 (drop_at bb rest (3 * s.args.h) lb),
     )
 

@@ -62,8 +62,8 @@ returns c =
       b₁ = n.new.b;
       noted = n.ensures;
       cut = c.before.before.before.before.before.before.before.cut_slots.ensures;
-      top = rw (take_at c.before.before.top_bits.new.0 (drop (3 * s.args.h) n.new.0) (3 * s.args.h) e) c.before.before.top_bits.ensures;
-      history = drop_at c.before.before.top_bits.new.0 (drop (3 * s.args.h) n.new.0) (3 * s.args.h) e;
+      top = rw (take_at c.before.before.top_bits.new.b (drop (3 * s.args.h) n.new.b) (3 * s.args.h) e) c.before.before.top_bits.ensures;
+      history = drop_at c.before.before.top_bits.new.b (drop (3 * s.args.h) n.new.b) (3 * s.args.h) e;
     }
 
 pub settle_spec : {M : Type 1} → statement M
