@@ -136,8 +136,8 @@ returns_2 c =
     equal e w.write_load-drawn.ensures.0
     (filled.fill_bytes.ensures ∙ filled_front 0 (job w) out _ n begun.bytes e (omega (arith, e, record_fits w)))
     (cleared.fill_bytes-2.ensures
-    ∙ filled_behind 0 w.write_load-drawn.last.1.1.1.1.1.1.1.0 x.payload.now k.payload_size-k.result
-    (w.write_load-drawn.kept.1.1.1.1.1.1.1.0 ∙ front_long k) (k_fits k)
+    ∙ filled_behind 0 w.write_load-drawn.new.payload x.payload.now k.payload_size-k.result
+    (w.write_load-drawn.auto.payload ∙ front_long k) (k_fits k)
     ∙ ap (padded 0 (length x.payload.now)) w.write_load-drawn.ensures.2)
     ∙ load_served_lem x.s (given s) x.frame out x.payload.now (passed k.before x.arikan)
 

@@ -13,45 +13,42 @@ use Rattle.positions.specs.Running.{zeros_at}
 use Rattle.decoder.proofs.serve.decode_list.Statement.{statement}
 use Rattle.decoder.proofs.serve.decode_list.Tie as tie
 
-sub_deep : tie.Need-overflow-sub-deep
+sub_deep : tie.Need-overflow_sub-deep
 sub_deep c = search rules
 
-cast_deep : tie.Need-overflow-cast-deep
+cast_deep : tie.Need-overflow_cast-deep
 cast_deep c = search rules
 
-fill_bytes_requires : tie.Need-fill-bytes-requires
+fill_bytes_requires : tie.Need-fill_bytes-requires
 fill_bytes_requires c κs = search rules
 
 start_requires : tie.Need-start-requires
 start_requires c κs =
-    let s = c.before.before.before.before.before.before.before.before.before.before in
-    start_fits s.args.m s.args.arikan s.args.l s.args.p s.args.n s.args.h s.args.map.now s.args.pairs.now s.args.soft.now _ s.requires s.args.t.now (omega arith)
+    start_fits c.args.m c.args.arikan c.args.l c.args.p c.args.n c.args.h c.args.map.now c.args.pairs.now c.args.soft.now _ c.requires c.args.t.now (omega arith)
 
 positions_requires : tie.Need-positions-requires
 positions_requires c κs =
-    let s = c.before.before.before.before.before.before.before.before.before.before.before.before.before.before.before.before in
-    run_fits s.args.m s.args.arikan s.args.l s.args.p s.args.n s.args.h s.args.map.now s.args.pairs.now s.args.soft.now _ s.requires _ _ _ (omega (arith, c.before.before.before.before.before.start.auto.0)) (omega (arith, c.before.before.before.before.before.before.before.before.before.fill-bytes.auto.0)) (omega arith)
+    run_fits c.args.m c.args.arikan c.args.l c.args.p c.args.n c.args.h c.args.map.now c.args.pairs.now c.args.soft.now _ c.requires _ _ _ (omega (arith, c.start.auto.t)) (omega (arith, c.fill_bytes.auto.bytes)) (omega arith)
 
-same_length : tie.Need-same-length
+same_length : tie.Need-shape_of-t
 same_length c = search rules
 
-same_length_2 : tie.Need-same-length-2
+same_length_2 : tie.Need-shape_of-b
 same_length_2 c = search rules
 
-same_length_3 : tie.Need-same-length-3
+same_length_3 : tie.Need-shape_of-inputs
 same_length_3 c = search rules
 
 returns : tie.Need-returns
 returns c =
-    let s = c.before.before.before.before.before.before.before.before.before.before.before.before.before.before.before.before.before.before.before.before.before.before.before in
-    let z = c.before.before.before.before.before.before.before.before.before.before.before.before.before.before.before.before.fill-bytes in
-    let a = c.before.before.before.before.before.before.before.before.before.before.before.before.start.ensures.0 in
-    let q = c.before.before.before.before.before.before.positions.ensures in
+    let z = c.fill_bytes in
+    let a = c.start.ensures.0 in
+    let q = c.positions.ensures in
     record {
       few = q.few;
-      ran = q.ran (code s.args.m s.args.arikan s.args.map.now s.args.pairs.now) (taken s.args.soft.now) refl refl refl
-          (record { exponent = exponent s.args.m s.args.arikan s.args.l s.args.p s.args.n s.args.h s.args.map.now s.args.pairs.now s.args.soft.now _ s.requires; soft = length_taken s.args.soft.now ∙ s.requires.long ∙ whole s.args.m s.args.arikan s.args.l s.args.p s.args.n s.args.h s.args.map.now s.args.pairs.now s.args.soft.now _ s.requires; small = a.small }) a
-          (λ j. ap (λ (b : List ℕ). get_or b j 0) (z.ensures ∙ zeroed 0 s.args.b.now) ∙ zeros_at (length s.args.b.now) j);
+      ran = q.ran (code c.args.m c.args.arikan c.args.map.now c.args.pairs.now) (taken c.args.soft.now) refl refl refl
+          (record { exponent = exponent c.args.m c.args.arikan c.args.l c.args.p c.args.n c.args.h c.args.map.now c.args.pairs.now c.args.soft.now _ c.requires; soft = length_taken c.args.soft.now ∙ c.requires.long ∙ whole c.args.m c.args.arikan c.args.l c.args.p c.args.n c.args.h c.args.map.now c.args.pairs.now c.args.soft.now _ c.requires; small = a.small }) a
+          (λ j. ap (λ (b : List ℕ). get_or b j 0) (z.ensures ∙ zeroed 0 c.args.b.now) ∙ zeros_at (length c.args.b.now) j);
     }
 
 pub decode_list_spec : {M : Type 1} → statement M

@@ -6,13 +6,13 @@ use Rattle.place.specs.Put.{then, whole}
 use Rattle.log_page.proofs.steps.close.Statement.{statement}
 use Rattle.log_page.proofs.steps.close.Tie as tie
 
-put_refusal_requires : tie.Need-put-refusal-requires
+put_refusal_requires : tie.Need-put_refusal-at-requires
 put_refusal_requires c κs = search rules
 
-put_last_requires : tie.Need-put-last-requires
+put_last_requires : tie.Need-put_last-count-requires
 put_last_requires c κs = search rules
 
-same_length : tie.Need-same-length
+same_length : tie.Need-shape_of-out
 same_length c = search rules
 
 returns : tie.Need-returns
@@ -21,7 +21,7 @@ returns c =
     let p = l.before.before.before.before in
     let s = p.before.before.before in
     record {
-      text = whole (then p.put-refusal.ensures.0 l.put_last.ensures.0) (omega (arith, l.put_last.ensures.1, p.put-refusal.ensures.1, s.requires.1));
+      text = whole (then p.put_refusal-at.ensures.0 l.put_last-count.ensures.0) (omega (arith, l.put_last-count.ensures.1, p.put_refusal-at.ensures.1, s.requires.1));
       ended = refl;
       records = refl;
       rows = refl;

@@ -6,16 +6,16 @@ use Rattle.place.specs.Put.{whole}
 use Rattle.log_page.proofs.steps.enter.Statement.{statement}
 use Rattle.log_page.proofs.steps.enter.Tie as tie
 
-put_result_requires : tie.Need-put-result-requires
+put_result_requires : tie.Need-put_result-count-requires
 put_result_requires c κs = search rules
 
-add_t9 : tie.Need-overflow-add-t9
+add_t9 : tie.Need-overflow_add-result
 add_t9 c = search rules
 
-add_t10 : tie.Need-overflow-add-t10
+add_t10 : tie.Need-overflow_add-result-2
 add_t10 c = search rules
 
-same_length : tie.Need-same-length
+same_length : tie.Need-shape_of-out
 same_length c = search rules
 
 returns : tie.Need-returns
@@ -23,7 +23,7 @@ returns c =
     let p = c.before.before.before.before in
     let s = p.before.before.before in
     record {
-      text = whole p.put-result.ensures.0 (omega (arith, p.put-result.ensures.1, s.requires));
+      text = whole p.put_result-count.ensures.0 (omega (arith, p.put_result-count.ensures.1, s.requires));
       ended = refl;
       records = refl;
       rows = refl;

@@ -37,21 +37,21 @@ flags s = let x = s.args in flags_are x.m (length x.word.now) x.arikan x.map.now
 
 fill_input_requires : tie.Need-fill_input-requires
 fill_input_requires c κs =
-    let d = c.before.before.before.before in
+    let d = c.before.before.before in
     let s = start d in
     let x = s.args in
     let b : 2 ^ x.m ≤ 8 * length x.map.now = enough_bits (2 ^ x.m) x.map.now s.requires.0.bytes in
     let e : length x.word.now ≡ 2 ^ x.m = s.requires.2 in (
       omega arith,
-      ap clear (flags s) ∙ sym s.requires.1 ∙ sym d.draw_bits-state.auto.1.0,
+      ap clear (flags s) ∙ sym s.requires.1 ∙ sym d.draw_bits-state.auto.bits,
       subst (λ (fs : List ℕ). Ruled fs x.pairs.now) (sym (flags s)) s.requires.0.ruled,
     )
 
 -- the word once it is filled
 abbrev drawn : tie.After-fill_input → tie.After-draw_bits-state
-drawn c = c.before.before.before.before.before
+drawn c = c.before.before.before.before
 
-input_is : (c : tie.After-fill_input) → let s = start (drawn c) in c.fill_input.new.1.1.1.0 ≡ input_for (given s) (payload_of s)
+input_is : (c : tie.After-fill_input) → let s = start (drawn c) in c.fill_input.new.input ≡ input_for (given s) (payload_of s)
 input_is c =
     let s = start (drawn c) in
     c.fill_input.ensures s.args.m s.args.arikan s.requires.2 ∙ ap (input_for (given s)) (is_payload (drawn c))
@@ -63,7 +63,7 @@ transform_word_requires c κs =
     record {
       least = s.requires.0.low;
       most = s.requires.0.high;
-      long = a.fill_input.auto.1.1.1.0 ∙ s.requires.2;
+      long = a.fill_input.auto.input ∙ s.requires.2;
       bits = rw (input_is a) (bits_input (given s) (bits_payload s.args.s (given s)));
     }
 
