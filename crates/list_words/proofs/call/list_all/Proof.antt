@@ -30,14 +30,14 @@ module _ (f : tie.After-find_columns) where
   same_mark : to_z w32 (of_z w32 start.args.mark) ≡ start.args.mark
   same_mark = to_z-of_z w32 start.args.mark start.ranges.mark
 
-  fits : BlockFits of start.args.soft.now f.find_columns.last.1.1.1.1.1.1.0 start.args.r (length f.find_columns.last.1.1.1.1.0) (length f.find_columns.last.1.1.1.1.1.0) (length start.args.bins.now)
+  fits : BlockFits of start.args.soft.now f.find_columns.new.cols start.args.r (length f.find_columns.new.payload) (length f.find_columns.new.word) (length start.args.bins.now)
   fits =
       let p = start.requires in
       record {
         lent = record {
           accepts = p.memory.accepts;
-          payload_long = f.find_columns.kept.1.1.1.1.0 ∙ p.memory.payload_long;
-          word_long = f.find_columns.kept.1.1.1.1.1.0 ∙ p.memory.word_long;
+          payload_long = f.find_columns.auto.payload ∙ p.memory.payload_long;
+          word_long = f.find_columns.auto.word ∙ p.memory.word_long;
         };
         soft_long = p.soft_long;
         in_range = p.in_range;
@@ -50,7 +50,7 @@ module _ (f : tie.After-find_columns) where
 -- ---- past the count
 module _ (k : tie.After-count_words-found) where
   abbrev found_columns : tie.After-find_columns
-  found_columns = k.before.before.before.before.before.before.before.before.before.before.before
+  found_columns = k.before.before.before.before.before.before.before.before.before.before
 
   abbrev y : List ℤ
   y = taken (start found_columns).args.soft.now
@@ -62,7 +62,7 @@ find_columns_requires : tie.Need-find_columns-requires
 find_columns_requires c κs = let p = c.before.before.before.before.before.before.before.before.before.before.before.requires in (p.memory, p.cols_long, omega (arith, p.last, p.few))
 
 count_words_requires : tie.Need-count_words-found-requires
-count_words_requires c κs = let f = c.before.before.before.before.before.before.before.before.before.before in (fits f, (start f).requires.all)
+count_words_requires c κs = let f = c.before.before.before.before.before.before.before.before.before in (fits f, (start f).requires.all)
 
 same_length : tie.Need-shape_of-cols-then-found-scores
 same_length c = search rules
@@ -84,12 +84,12 @@ returns c =
 write_rows_requires : tie.Need-write_rows-requires
 write_rows_requires c κs =
     let e = c.before.before.before.before.before.before.before in
-    let k = e.before.before.before.before.before.before.before in
+    let k = e.before.before.before.before.before.before in
     let f = found_columns k in
     let p = (start f).requires in (
-      block_again (fits f) k.count_words-found.auto.1.1.1.1.1.1.0 k.count_words-found.auto.1.1.1.1.1.1.1.0 k.count_words-found.auto.1.1.1.1.1.1.1.1.0,
+      block_again (fits f) k.count_words-found.auto.payload k.count_words-found.auto.word k.count_words-found.auto.bins,
       p.all,
-      record { row = p.row; room = omega (arith, k.count_words-found.ensures, e.if-found-scores.false); inputs_there = p.inputs_there; words_there = p.words_there },
+      record { row = p.row; room = omega (arith, k.count_words-found.ensures, c.if-found-scores.false); inputs_there = p.inputs_there; words_there = p.words_there },
     )
 
 same_length_5 : tie.Need-shape_of-cols
@@ -98,16 +98,16 @@ same_length_5 c = search rules
 same_length_6 : tie.Need-shape_of-payload
 same_length_6 c =
     let w = c.before.before.before.before.before.before.before.before.before.before.before in
-    let k = w.before.before.before.before.before.before.before.before.before.before.before.before.before.before.before in
+    let k = w.before.before.before.before.before.before.before.before.before.before.before.before.before.before in
     let f = found_columns k in
-    w.write_rows.auto.1.1.1.1.1.1.0 ∙ k.count_words-found.auto.1.1.1.1.1.1.0 ∙ f.find_columns.kept.1.1.1.1.0
+    w.write_rows.auto.payload ∙ k.count_words-found.auto.payload ∙ f.find_columns.auto.payload
 
 same_length_7 : tie.Need-shape_of-word
 same_length_7 c =
     let w = c.before.before.before.before.before.before.before.before.before.before.before in
-    let k = w.before.before.before.before.before.before.before.before.before.before.before.before.before.before.before in
+    let k = w.before.before.before.before.before.before.before.before.before.before.before.before.before.before in
     let f = found_columns k in
-    w.write_rows.auto.1.1.1.1.1.1.1.0 ∙ k.count_words-found.auto.1.1.1.1.1.1.1.0 ∙ f.find_columns.kept.1.1.1.1.1.0
+    w.write_rows.auto.word ∙ k.count_words-found.auto.word ∙ f.find_columns.auto.word
 
 same_length_8 : tie.Need-shape_of-bins
 same_length_8 c = search rules
@@ -125,14 +125,14 @@ returns_2 : tie.Need-returns
 returns_2 c =
     let w = c.before.before.before.before.before.before.before.before.before.before.before in
     let e = w.before.before.before.before.before.before.before.before in
-    let k = e.before.before.before.before.before.before.before in
+    let k = e.before.before.before.before.before.before in
     let f = found_columns k in
     record {
       count = count_is k;
       rows_are = λ h.
-          subst (λ (z : ℤ). Kept (of f) (y k) (hits z 0 (correlations (of f) (y k))) w.write_rows.new.1.1.1.1.1.1.1.1.1.0 w.write_rows.new.1.1.1.1.1.1.1.1.1.1.0 w.write_rows.new.1.1.1.1.1.1.1.1.1.1.1.0)
+          subst (λ (z : ℤ). Kept (of f) (y k) (hits z 0 (correlations (of f) (y k))) w.write_rows.new.inputs w.write_rows.new.words w.write_rows.new.scores)
           (same_mark f) w.write_rows.ensures;
-      untouched = λ h. absurd (omega (arith, h, e.if-found-scores.false));
+      untouched = λ h. absurd (omega (arith, h, c.if-found-scores.false));
     }
 
 pub list_all_spec : {M : Type 1} → statement M

@@ -131,7 +131,7 @@ returns c =
     let a = start l.before.before.before.before.before.before.before.before in
     let of : Code = code a.args.m a.args.arikan a.args.map.now a.args.pairs.now in
     subst (λ (z : ℤ). Listed of a.args.soft.now z l.list_all.result a.args.inputs.now a.args.words.now a.args.scores.now
-    l.list_all.new.1.1.1.1.1.1.1.1.1.1.0 l.list_all.new.1.1.1.1.1.1.1.1.1.1.1.0 l.list_all.new.1.1.1.1.1.1.1.1.1.1.1.1.0)
+    l.list_all.new.inputs l.list_all.new.words l.list_all.new.scores)
     (to_z-of_z w32 a.args.mark a.ranges.mark) l.list_all.ensures
 
 pub list_in_tables_spec : {M : Type 1} → statement M

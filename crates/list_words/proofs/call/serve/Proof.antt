@@ -29,20 +29,20 @@ module _ (c : tie.After-clear_tables) where
   of = code start.args.m start.args.arikan start.args.map.now start.args.pairs.now
 
   all_listed : Listed of start.args.soft.now start.args.mark done.list_in_tables-found.result start.args.inputs.now start.args.words.now start.args.scores.now
-      done.list_in_tables-found.last.1.1.1.1.1.1.1.1.0 done.list_in_tables-found.last.1.1.1.1.1.1.1.1.1.0 done.list_in_tables-found.last.1.1.1.1.1.1.1.1.1.1.0
+      done.list_in_tables-found.new.inputs done.list_in_tables-found.new.words done.list_in_tables-found.new.scores
   all_listed =
       subst (λ (z : ℤ). Listed of start.args.soft.now z done.list_in_tables-found.result start.args.inputs.now start.args.words.now start.args.scores.now
-      done.list_in_tables-found.last.1.1.1.1.1.1.1.1.0 done.list_in_tables-found.last.1.1.1.1.1.1.1.1.1.0 done.list_in_tables-found.last.1.1.1.1.1.1.1.1.1.1.0)
+      done.list_in_tables-found.new.inputs done.list_in_tables-found.new.words done.list_in_tables-found.new.scores)
       (to_z-of_z w32 start.args.mark start.ranges.mark) done.list_in_tables-found.ensures
 
-  same_scores : length done.list_in_tables-found.last.1.1.1.1.1.1.1.1.1.1.0 ≡ length start.args.scores.now
-  same_scores = done.list_in_tables-found.kept.1.1.1.1.1.1.1.1.1.1.0
+  same_scores : length done.list_in_tables-found.new.scores ≡ length start.args.scores.now
+  same_scores = done.list_in_tables-found.auto.scores
 
-  numbers_zero : c.clear_tables.new.0 ≡ replicate (length start.args.numbers.now) 0
-  numbers_zero = c.clear_tables.ensures.0 ∙ ap (λ (k : ℕ). replicate k 0) done.list_in_tables-found.kept.1.1.1.1.1.1.0
+  numbers_zero : c.clear_tables.new.t ≡ replicate (length start.args.numbers.now) 0
+  numbers_zero = c.clear_tables.ensures.0 ∙ ap (λ (k : ℕ). replicate k 0) done.list_in_tables-found.auto.numbers
 
-  bytes_zero : c.clear_tables.new.1.0 ≡ replicate (length start.args.bytes.now) 0
-  bytes_zero = c.clear_tables.ensures.1 ∙ ap (λ (k : ℕ). replicate k 0) done.list_in_tables-found.kept.1.1.1.1.1.1.1.0
+  bytes_zero : c.clear_tables.new.b ≡ replicate (length start.args.bytes.now) 0
+  bytes_zero = c.clear_tables.ensures.1 ∙ ap (λ (k : ℕ). replicate k 0) done.list_in_tables-found.auto.bytes
 
   -- no more words than payloads
   found_small : done.list_in_tables-found.result ≤ 1048576
@@ -104,7 +104,7 @@ returns_2 : tie.Need-returns
 returns_2 c =
     let z = c.before.before.before.before.before in
     let k = (done z).list_in_tables-found.auto in
-    served_rows (start z).args.numbers.now (start z).args.bytes.now (all_listed z) (numbers_zero z) (bytes_zero z) k.1.1.1.1.1.1.1.1.0 k.1.1.1.1.1.1.1.1.1.0 k.1.1.1.1.1.1.1.1.1.1.0 (omega (arith, c.if-scores-found.false, same_scores z))
+    served_rows (start z).args.numbers.now (start z).args.bytes.now (all_listed z) (numbers_zero z) (bytes_zero z) k.inputs k.words k.scores (omega (arith, c.if-scores-found.false, same_scores z))
 
 pub serve_spec : {M : Type 1} → statement M
 serve_spec =

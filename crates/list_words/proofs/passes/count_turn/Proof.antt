@@ -29,12 +29,10 @@ same_length_3 c = search rules
 
 returns : tie.Need-returns
 returns c =
-    let b = c.before.before.before.before.before.before.before.before in
-    let s = b.before.before.before.before.before.before.before.before.before.before in
-    let a = s.args in
+    let a = c.args in
     let of : Code = code a.m a.arikan a.map.now a.pairs.now in
-    subst (λ (z : ℤ). c.count_block.result ≡ length (hits z a.q (block of a.soft.now a.r a.q))) (to_z-of_z w32 a.mark s.ranges.mark)
-    (c.count_block.ensures.1 (block of a.soft.now a.r a.q) a.q (block_small s.requires.0 a.q) b.correlate_block.ensures)
+    subst (λ (z : ℤ). c.count_block.result ≡ length (hits z a.q (block of a.soft.now a.r a.q))) (to_z-of_z w32 a.mark c.ranges.mark)
+    (c.count_block.ensures.1 (block of a.soft.now a.r a.q) a.q (block_small c.requires.0 a.q) c.correlate_block.ensures)
 
 pub count_turn_spec : {M : Type 1} → statement M
 count_turn_spec =

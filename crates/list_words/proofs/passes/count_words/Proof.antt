@@ -58,20 +58,20 @@ add_q : tie.Need-overflow_add-q invariant-loop-q decreases-loop-q
 add_q c =
     let k = c.before.before.before.before.before.before in
     let t = k.before.before.before.before in
-    omega (arith, next_small (start t).requires.0 t.before.loop-q.invariant (ahead t) k.count_turn-found.auto.1.1.1.1.1.1.1.1.0)
+    omega (arith, next_small (start t).requires.0 t.before.loop-q.invariant (ahead t) k.count_turn-found.auto.bins)
 
 loop_less : tie.Need-loop-q-smaller invariant-loop-q decreases-loop-q
 loop_less c =
     let k = c.before.before.before.before.before.before in
     let t = k.before.before.before.before in
-    omega (arith, (start t).requires.1, next_further (start t).requires.0 t.before.loop-q.invariant (ahead t) k.count_turn-found.auto.1.1.1.1.1.1.1.1.0)
+    omega (arith, (start t).requires.1, next_further (start t).requires.0 t.before.loop-q.invariant (ahead t) k.count_turn-found.auto.bins)
 
 loop_again : tie.Need-loop-q-preserved invariant-loop-q decreases-loop-q
 loop_again c =
     let k = c.before.before.before.before.before.before in
     let t = k.before.before.before.before in
     let i = t.before.loop-q.invariant in
-    passing_turn (start t).requires.0 i (ahead t) k.count_turn-found.auto.1.1.1.1.1.1.0 k.count_turn-found.auto.1.1.1.1.1.1.1.0 k.count_turn-found.auto.1.1.1.1.1.1.1.1.0
+    passing_turn (start t).requires.0 i (ahead t) k.count_turn-found.auto.payload k.count_turn-found.auto.word k.count_turn-found.auto.bins
     (ap (λ (j : ℕ). t.before.loop-q.found + j) k.count_turn-found.ensures)
 
 same_length : tie.Need-shape_of-payload invariant-loop-q decreases-loop-q

@@ -40,7 +40,7 @@ loop_holds c =
       inputs_kept = refl;
       words_kept = refl;
       scores_kept = refl;
-      rows_are = kept_none of (taken a.soft.now) a.inputs.now a.words.now a.scores.now z.clear_outputs.new.0 z.clear_outputs.new.1.0 z.clear_outputs.new.1.1.0 k.0 k.1.0 k.1.1.0 e.0 e.1 e.2;
+      rows_are = kept_none of (taken a.soft.now) a.inputs.now a.words.now a.scores.now z.clear_outputs.new.inputs z.clear_outputs.new.words z.clear_outputs.new.scores k.inputs k.words k.scores e.0 e.1 e.2;
     }
 
 -- the outputs once they are 0
@@ -55,21 +55,21 @@ module _ (l : tie.At-loop-q invariant-loop-q decreases-loop-q) where
   of = code start.args.m start.args.arikan start.args.map.now start.args.pairs.now
 
   abbrev inputs : List ℕ
-  inputs = cleared.clear_outputs.last.0
+  inputs = cleared.clear_outputs.new.inputs
 
   abbrev words : List ℕ
-  words = cleared.clear_outputs.last.1.0
+  words = cleared.clear_outputs.new.words
 
   abbrev scores : List ℤ
-  scores = cleared.clear_outputs.last.1.1.0
+  scores = cleared.clear_outputs.new.scores
 
   same_mark : to_z w32 (of_z w32 start.args.mark) ≡ start.args.mark
   same_mark = to_z-of_z w32 start.args.mark start.ranges.mark
 
   room : PassRoom of start.args.soft.now (to_z w32 (of_z w32 start.args.mark)) start.args.n (length inputs) (length words) (length scores)
   room =
-      let k = cleared.clear_outputs.kept in
-      room_again start.requires.2 (sym same_mark) k.0 k.1.0 k.1.1.0
+      let k = cleared.clear_outputs.auto in
+      room_again start.requires.2 (sym same_mark) k.inputs k.words k.scores
 
 module _ (c : tie.In-loop-q invariant-loop-q decreases-loop-q) where
   ahead : c.before.loop-q.q < 2 ^ payload_size (of c.before)
@@ -86,19 +86,19 @@ add_q : tie.Need-overflow_add-q invariant-loop-q decreases-loop-q
 add_q c =
     let k = c.before.before.before.before.before.before.before.before.before.before.before in
     let t = k.before.before.before.before.before.before.before in
-    omega (arith, next_small (start t.before).requires.0 t.before.loop-q.invariant.pass (ahead t) k.write_turn-found.auto.1.1.1.1.1.1.1.1.0)
+    omega (arith, next_small (start t.before).requires.0 t.before.loop-q.invariant.pass (ahead t) k.write_turn-found.auto.bins)
 
 loop_less : tie.Need-loop-q-smaller invariant-loop-q decreases-loop-q
 loop_less c =
     let k = c.before.before.before.before.before.before.before.before.before.before.before in
     let t = k.before.before.before.before.before.before.before in
-    omega (arith, (start t.before).requires.1, next_further (start t.before).requires.0 t.before.loop-q.invariant.pass (ahead t) k.write_turn-found.auto.1.1.1.1.1.1.1.1.0)
+    omega (arith, (start t.before).requires.1, next_further (start t.before).requires.0 t.before.loop-q.invariant.pass (ahead t) k.write_turn-found.auto.bins)
 
 loop_again : tie.Need-loop-q-preserved invariant-loop-q decreases-loop-q
 loop_again c =
     let k = c.before.before.before.before.before.before.before.before.before.before.before in
     let t = k.before.before.before.before.before.before.before in
-    writing_turn (start t.before).requires.0 t.before.loop-q.invariant (ahead t) k.write_turn-found.auto.1.1.1.1.1.1.0 k.write_turn-found.auto.1.1.1.1.1.1.1.0 k.write_turn-found.auto.1.1.1.1.1.1.1.1.0 k.write_turn-found.auto.1.1.1.1.1.1.1.1.1.0 k.write_turn-found.auto.1.1.1.1.1.1.1.1.1.1.0 k.write_turn-found.auto.1.1.1.1.1.1.1.1.1.1.1.0 k.write_turn-found.ensures
+    writing_turn (start t.before).requires.0 t.before.loop-q.invariant (ahead t) k.write_turn-found.auto.payload k.write_turn-found.auto.word k.write_turn-found.auto.bins k.write_turn-found.auto.inputs k.write_turn-found.auto.words k.write_turn-found.auto.scores k.write_turn-found.ensures
 
 same_length : tie.Need-shape_of-payload invariant-loop-q decreases-loop-q
 same_length c = c.before.loop-q.invariant.pass.payload_kept
@@ -110,13 +110,13 @@ same_length_3 : tie.Need-shape_of-bins invariant-loop-q decreases-loop-q
 same_length_3 c = c.before.loop-q.invariant.pass.bins_kept
 
 same_length_4 : tie.Need-shape_of-inputs invariant-loop-q decreases-loop-q
-same_length_4 c = c.before.loop-q.invariant.inputs_kept ∙ (cleared c.before).clear_outputs.kept.0
+same_length_4 c = c.before.loop-q.invariant.inputs_kept ∙ (cleared c.before).clear_outputs.auto.inputs
 
 same_length_5 : tie.Need-shape_of-words invariant-loop-q decreases-loop-q
-same_length_5 c = c.before.loop-q.invariant.words_kept ∙ (cleared c.before).clear_outputs.kept.1.0
+same_length_5 c = c.before.loop-q.invariant.words_kept ∙ (cleared c.before).clear_outputs.auto.words
 
 same_length_6 : tie.Need-shape_of-scores invariant-loop-q decreases-loop-q
-same_length_6 c = c.before.loop-q.invariant.scores_kept ∙ (cleared c.before).clear_outputs.kept.1.1.0
+same_length_6 c = c.before.loop-q.invariant.scores_kept ∙ (cleared c.before).clear_outputs.auto.scores
 
 returns : tie.Need-returns invariant-loop-q decreases-loop-q
 returns c =

@@ -20,26 +20,26 @@ module _ (c : tie.After-correlate_block) where
   abbrev of : Code
   of = code start.args.m start.args.arikan start.args.map.now start.args.pairs.now
 
-  holds : Holds of (taken start.args.soft.now) c.correlate_block.new.1.1.1.1.1.1.1.1.0 start.args.q
+  holds : Holds of (taken start.args.soft.now) c.correlate_block.new.bins start.args.q
   holds =
-      block_holds start.requires.0 start.requires.2 c.correlate_block.new.1.1.1.1.1.1.1.1.0 c.correlate_block.auto.1.1.1.1.1.1.1.1.0
+      block_holds start.requires.0 start.requires.2 c.correlate_block.new.bins c.correlate_block.auto.bins
       c.correlate_block.ensures
 
   same_mark : to_z w32 (of_z w32 start.args.mark) ≡ start.args.mark
   same_mark = to_z-of_z w32 start.args.mark start.ranges.mark
 
-  bins_long : length c.correlate_block.new.1.1.1.1.1.1.1.1.0 ≡ 2 ^ start.args.r
-  bins_long = c.correlate_block.auto.1.1.1.1.1.1.1.1.0 ∙ start.requires.0.bins_long
+  bins_long : length c.correlate_block.new.bins ≡ 2 ^ start.args.r
+  bins_long = c.correlate_block.auto.bins ∙ start.requires.0.bins_long
 
 correlate_block_requires : tie.Need-correlate_block-requires
 correlate_block_requires c κs = search rules
 
 keep_block_requires : tie.Need-keep_block-requires
 keep_block_requires c κs =
-    let b = c.before.before.before.before.before.before.before.before.before.before.before in
+    let b = c.before.before.before.before.before.before.before.before.before.before in
     let s = start b in
     let f = s.requires.0 in (
-      record { accepts = f.lent.accepts; payload_long = b.correlate_block.auto.1.1.1.1.1.1.0 ∙ f.lent.payload_long; word_long = s.requires.3.row },
+      record { accepts = f.lent.accepts; payload_long = b.correlate_block.auto.payload ∙ f.lent.payload_long; word_long = s.requires.3.row },
       room_of f (holds b) (bins_long b) (same_mark b) s.requires.3,
     )
 
@@ -64,9 +64,9 @@ same_length_6 c = search rules
 returns : tie.Need-returns
 returns c hs e =
     let k = c.before.before.before.before.before.before.before in
-    let b = k.before.before.before.before.before.before.before.before.before.before.before.before in
+    let b = k.before.before.before.before.before.before.before.before.before.before.before in
     let s = start b in
-    wrote_block (of b) s.args.soft.now (to_z w32 (of_z w32 s.args.mark)) s.args.mark s.args.r s.args.q b.correlate_block.new.1.1.1.1.1.1.1.1.0 hs (same_mark b) (bins_long b) (k.keep_block.ensures (taken s.args.soft.now) hs e (holds b))
+    wrote_block (of b) s.args.soft.now (to_z w32 (of_z w32 s.args.mark)) s.args.mark s.args.r s.args.q b.correlate_block.new.bins hs (same_mark b) (bins_long b) (k.keep_block.ensures (taken s.args.soft.now) hs e (holds b))
 
 pub write_turn_spec : {M : Type 1} → statement M
 write_turn_spec =

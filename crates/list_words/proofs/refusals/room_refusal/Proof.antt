@@ -6,6 +6,7 @@ use mathlib.Core.List.{List, [], ◌∷◌, ◌++◌}
 use Prim.Native.Nat.{ℕ, ◌+◌, ◌*◌}
 use native.Mathlib.Omega.{arith}
 use borrow.Author.Rules.{rules}
+use borrow.Author.Tests.{lt-ltb, le-ltb}
 use lib.Dec.{ltb}
 use Rattle.spec.specs.Faults.{Fault, fault, first}
 use Rattle.spec.specs.Refusals.{room_fault, number_room, byte_room}
@@ -47,7 +48,7 @@ module _ (c : tie.Else-few_numbers) where
   past = c.before.before
 
   numbers_enough : ltb (start past).args.numbers (number_room (start past).args.n 1) ≡ false
-  numbers_enough = numbers_are past ∙ c.if-few_numbers.false
+  numbers_enough = numbers_are past ∙ le-ltb (start past).args.numbers (32 * (start past).args.n) c.if-few_numbers.false
 
 mul_few_numbers : tie.Need-overflow_mul-few_numbers
 mul_few_numbers c = search rules
@@ -73,26 +74,26 @@ returns c =
     first_before (values (start o)) (lent (start o)) o.before.before.soft_refusal-values.result o.before.before.soft_refusal-values.ensures c.if-values-ne0.true
 
 returns_2 : tie.Need-returns-then-few_numbers
-returns_2 c = let o = c.before.before in decided o c.before.if-values-ne0.false 8 (here (numbers_are o ∙ c.if-few_numbers.true))
+returns_2 c = let o = c.before.before in decided o c.before.if-values-ne0.false 8 (here (numbers_are o ∙ lt-ltb (start o).args.numbers (32 * (start o).args.n) c.if-few_numbers.true))
 
 returns_3 : tie.Need-returns-then-few_bytes
 returns_3 c =
     let e = c.before in
-    decided (past e) e.before.if-values-ne0.false 9 (later (numbers_enough e) (here (bytes_are (past e) ∙ c.if-few_bytes.true)))
+    decided (past e) e.before.if-values-ne0.false 9 (later (numbers_enough e) (here (bytes_are (past e) ∙ lt-ltb (start (past e)).args.bytes (4 * (start (past e)).args.n + 256) c.if-few_bytes.true)))
 
 returns_4 : tie.Need-returns-then-few_inputs
 returns_4 c =
     let e = c.before.before in
     let o = past e in
     decided o e.before.if-values-ne0.false 10
-    (later (numbers_enough e) (later (bytes_are o ∙ c.before.if-few_bytes.false) (here (sym o.before.rows_short-few_inputs.ensures ∙ c.if-few_inputs.true))))
+    (later (numbers_enough e) (later (bytes_are o ∙ le-ltb (start o).args.bytes (4 * (start o).args.n + 256) c.before.if-few_bytes.false) (here (sym o.before.rows_short-few_inputs.ensures ∙ c.if-few_inputs.true))))
 
 returns_5 : tie.Need-returns-then-few_words
 returns_5 c =
     let e = c.before.before.before in
     let o = past e in
     decided o e.before.if-values-ne0.false 10
-    (later (numbers_enough e) (later (bytes_are o ∙ c.before.before.if-few_bytes.false)
+    (later (numbers_enough e) (later (bytes_are o ∙ le-ltb (start o).args.bytes (4 * (start o).args.n + 256) c.before.before.if-few_bytes.false)
     (later (sym o.before.rows_short-few_inputs.ensures ∙ c.before.if-few_inputs.false) (here (sym o.rows_short-few_words.ensures ∙ c.if-few_words.true)))))
 
 returns_6 : tie.Need-returns
@@ -100,7 +101,7 @@ returns_6 c =
     let e = c.before.before.before in
     let o = past e in
     decided o e.before.if-values-ne0.false 0
-    (later (numbers_enough e) (later (bytes_are o ∙ c.before.before.if-few_bytes.false)
+    (later (numbers_enough e) (later (bytes_are o ∙ le-ltb (start o).args.bytes (4 * (start o).args.n + 256) c.before.before.if-few_bytes.false)
     (later (sym o.before.rows_short-few_inputs.ensures ∙ c.before.if-few_inputs.false) (later (sym o.rows_short-few_words.ensures ∙ c.if-few_words.false) none))))
 
 pub room_refusal_spec : {M : Type 1} → statement M

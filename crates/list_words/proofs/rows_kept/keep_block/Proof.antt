@@ -71,7 +71,7 @@ loop_again : tie.Need-loop-i-preserved invariant-loop-i decreases-loop-i
 loop_again c =
     let k = c.before.before.before.before.before.before.before in
     let t = k.before.before.before.before.before.before in
-    keeping_turn t.before.loop-i.invariant t.loop-i-test.true k.keep-found.auto.1.1.1.1.0 k.keep-found.auto.1.1.1.1.1.0 k.keep-found.auto.1.1.1.1.1.1.0 k.keep-found.auto.1.1.1.1.1.1.1.0 k.keep-found.ensures
+    keeping_turn t.before.loop-i.invariant t.loop-i-test.true k.keep-found.auto.payload k.keep-found.auto.inputs k.keep-found.auto.words k.keep-found.auto.scores k.keep-found.ensures
 
 same_length : tie.Need-shape_of-payload invariant-loop-i decreases-loop-i
 same_length c = search rules

@@ -98,8 +98,8 @@ returns c y hs e es k =
     let n : ℕ = s.args.n in
     let here : at a ≡ n * length hs = a.row_start-at.ensures ∙ ap (λ (j : ℕ). n * j) (sym e) in
     record {
-      inputs_are = row_put (input_at (of a)) n (λ q. input_long accepts q ∙ sym s.requires.0.word_long) hs s.args.inputs.now (at a) (at a + n - at a) here (width a) (input_room a) k.inputs_are s.args.q p.put_row.new.1.1.1.1.1.0 p.put_row.ensures.0;
-      words_are = row_put (word_at (of a)) n (λ q. word_long accepts q ∙ sym s.requires.0.word_long) hs s.args.words.now (at a) (at a + n - at a) here (width a) (word_room a) k.words_are s.args.q p.put_row.new.1.1.1.1.1.1.0 p.put_row.ensures.1;
+      inputs_are = row_put (input_at (of a)) n (λ q. input_long accepts q ∙ sym s.requires.0.word_long) hs s.args.inputs.now (at a) (at a + n - at a) here (width a) (input_room a) k.inputs_are s.args.q p.put_row.new.input p.put_row.ensures.0;
+      words_are = row_put (word_at (of a)) n (λ q. word_long accepts q ∙ sym s.requires.0.word_long) hs s.args.words.now (at a) (at a + n - at a) here (width a) (word_room a) k.words_are s.args.q p.put_row.new.word p.put_row.ensures.1;
       scores_are = subst (λ (j : ℕ). let t : List ℤ = set s.args.scores.now j (to_z w32 (of_z w32 s.args.s)) in t ≡ padded (pos 0) (length t) (map (λ (q : ℕ). correlation y (word_at (of a) q)) (hs ++ (s.args.q ∷ [])))) e (score_put (λ (q : ℕ). correlation y (word_at (of a) q)) hs s.args.scores.now s.args.q (to_z w32 (of_z w32 s.args.s)) (omega (arith, e, s.requires.1.place)) (to_z-of_z w32 s.args.s s.ranges.s ∙ es) k.scores_are);
     }
 

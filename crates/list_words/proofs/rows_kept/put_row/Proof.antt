@@ -29,7 +29,7 @@ module _ (c : tie.After-put_payload) where
   p = numeral (payload_size of) start.args.q
 
   -- the payload once it is put
-  put_is : c.put_payload.new.0 ≡ p
+  put_is : c.put_payload.new.payload ≡ p
   put_is = c.put_payload.ensures ∙ ap (λ (k : ℕ). numeral k start.args.q) start.requires.0.payload_long
 
   flags : flags_of (length start.args.input.now) start.args.map.now ≡ frozen of
@@ -42,7 +42,7 @@ put_payload_requires c κs = search rules
 
 fill_input_requires : tie.Need-fill_input-requires
 fill_input_requires c κs =
-    let a = c.before.before.before.before in
+    let a = c.before.before.before in
     let s = start a in
     let b : 2 ^ s.args.m ≤ 8 * length s.args.map.now = enough_bits (2 ^ s.args.m) s.args.map.now s.requires.0.accepts.bytes in
     let e : length s.args.input.now ≡ 2 ^ s.args.m = s.requires.0.word_long in (
@@ -54,19 +54,19 @@ fill_input_requires c κs =
 -- the input once it is filled
 module _ (f : tie.After-fill_input) where
   abbrev put : tie.After-put_payload
-  put = f.before.before.before.before.before
+  put = f.before.before.before.before
 
-  input_is : f.fill_input.last.1.1.1.0 ≡ input_for (of put) (p put)
+  input_is : f.fill_input.new.input ≡ input_for (of put) (p put)
   input_is =
       f.fill_input.ensures (start put).args.m (start put).args.arikan (start put).requires.0.word_long
       ∙ ap (input_for (of put)) (put_is put)
 
 put_word_requires : tie.Need-put_word-requires
 put_word_requires c κs =
-    let f = c.before.before.before.before in
+    let f = c.before.before.before in
     let s = start (put f) in
-    let long : length f.fill_input.new.1.1.1.0 ≡ 2 ^ s.args.m = f.fill_input.auto.1.1.1.0 ∙ s.requires.0.word_long in (
-      s.requires.1 ∙ sym f.fill_input.auto.1.1.1.0,
+    let long : length f.fill_input.new.input ≡ 2 ^ s.args.m = f.fill_input.auto.input ∙ s.requires.0.word_long in (
+      s.requires.1 ∙ sym f.fill_input.auto.input,
       record {
         least = s.requires.0.accepts.low;
         most = s.requires.0.accepts.high;
@@ -88,7 +88,7 @@ returns : tie.Need-returns
 unfolding input_at word_at encoded
 returns c =
     let w = c.before.before in
-    let f = w.before.before.before.before.before in
+    let f = w.before.before.before.before in
     (input_is f, w.put_word.ensures ∙ ap (code_transform (of (put f))) (input_is f))
 
 pub put_row_spec : {M : Type 1} → statement M
