@@ -10,10 +10,10 @@ use borrow.Author.Rules.{rules}
 use Rattle.caldurrex.proofs.caldurrex_write_result.Statement.{statement}
 use Rattle.caldurrex.proofs.caldurrex_write_result.Tie as tie
 
-write_result_for_host_requires : tie.Need-write-result-for-host-requires
+write_result_for_host_requires : tie.Need-write_result_for_host-requires
 write_result_for_host_requires c κs = search rules
 
-same_length : tie.Need-same-length
+same_length : tie.Need-shape_of-bytes
 same_length c = search rules
 
 returns : tie.Need-returns
@@ -22,7 +22,7 @@ returns c =
     let s = w.before.before.before.before in
     let x = s.args in
     let same = to_z-of_z w32 x.ceiling s.ranges.ceiling in
-    w.write-result-for-host.ensures
+    w.write_result_for_host.ensures
     ∙ ap (λ (z : ℤ). length_for_host (write_result_outcome (result_of x.m x.rows x.frame z x.scores.now x.inputs.now) x.bytes.now)) same
 
 pub caldurrex_write_result_spec : {M : Type 1} → statement M
