@@ -1,4 +1,6 @@
 // A block of at most 64 positions and 4 rows, decoded in tables of its own and written as text.
+#![tactic(auto)]
+
 ghost use Rattle.std.specs.Prelude.{◌≡◌, ◌+◌, ◌*◌, ◌^◌, ◌≤◌, length};
 ghost use Rattle.spec.specs.Code.{code};
 ghost use Rattle.decoder.specs.Answers.{answer_of};

@@ -1,4 +1,6 @@
 // The rows of a decoded block in the three lent outputs and its ceiling, from its history and its live list.
+#![tactic(auto)]
+
 ghost use Rattle.std.specs.Prelude.{◌≡◌, ◌≤◌, length};
 ghost use Rattle.block_rows.specs.BlockRows.{CostsRead, BitsWritten, BitsFit, CostsWritten, CostsFit, CeilingFits, ceiling_from};
 

@@ -1,5 +1,7 @@
 // The calls for a host written in C. A slice is a pointer and a length in elements; the choice of Arikan's transform is a byte, 0 for no and
 // any other for yes.
+#![tactic(auto)]
+
 mod counted;
 mod fields;
 

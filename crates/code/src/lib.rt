@@ -1,5 +1,7 @@
 // A code: n, the refusals that every call on it has, k, the flags of its frozen map, the bit of a prefix at a frozen position, and the
 // test of the bits given with it.
+#![tactic(auto)]
+
 mod bits;
 mod flags;
 mod pairs;

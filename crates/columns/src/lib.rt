@@ -1,4 +1,6 @@
 // Texts at the right end of columns, written into a buffer from a place on. Each function returns the place behind what it wrote.
+#![tactic(auto)]
+
 ghost use Rattle.std.specs.Prelude.{◌≡◌, ◌+◌, ◌≤◌, length};
 ghost use Rattle.text.specs.Decimal.{decimal, signed_decimal};
 ghost use Rattle.place.specs.Put.{Put};

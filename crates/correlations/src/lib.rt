@@ -1,4 +1,6 @@
 // The correlations of a word plus each sum of some words, all at once, in bins of 32 bits.
+#![tactic(auto)]
+
 mod bins;
 mod fold;
 

@@ -1,4 +1,6 @@
 // The refusals of a decoder call in turn, 1 to 10 with 15 behind 3, decided before anything is written.
+#![tactic(auto)]
+
 ghost use Rattle.std.specs.Prelude.{◌≡◌, Bool, ◌||◌, ◌++◌, ◌^◌, ◌≤◌, ltb};
 ghost use Rattle.spec.specs.Code.{code};
 ghost use Rattle.spec.specs.Faults.{first};

@@ -38,6 +38,14 @@ fn decode_list(
     positions(t, b, inputs, map, pairs, p, deep, l, h, n, arikan)
 }
 
+// Both tables set to 0 to their last place.
+fn clear_tables(t: &mut [u32], b: &mut [u8])
+    ensures { (t.new ≡ replicate (length t.old) 0) × (b.new ≡ replicate (length b.old) 0) }
+{
+    fill_words(t, 0);
+    fill_bytes(b, 0);
+}
+
 // The row count and the ceiling; then the outputs hold the rows of the paper decoder and the tables are 0.
 pub(crate) fn serve(
     m: u32,

@@ -1,4 +1,6 @@
 // Draws from a state: the bits of a payload, and the soft values of a code word with noise.
+#![tactic(auto)]
+
 ghost use Rattle.std.specs.Prelude.{◌≡◌, ◌%◌, length};
 ghost use Rattle.spec.specs.TestLoad.{draw, draws, after_draws, drawn_bits, noisy, noisy_word};
 

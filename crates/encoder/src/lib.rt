@@ -1,4 +1,6 @@
 // The encoder.
+#![tactic(auto)]
+
 mod fill;
 
 ghost use Rattle.std.specs.Prelude.{Bool, ◌≡◌, ◌^◌, length};

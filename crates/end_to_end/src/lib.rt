@@ -1,1 +1,3 @@
+#![tactic(auto)]
+
 // The theorems stand in specs/: nothing runs here.

@@ -1,4 +1,6 @@
 // The extractor.
+#![tactic(auto)]
+
 mod gather;
 
 ghost use Rattle.std.specs.Prelude.{Bool, ◌≡◌, ◌^◌, length};

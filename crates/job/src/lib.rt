@@ -1,4 +1,6 @@
 // The reader of job records.
+#![tactic(auto)]
+
 mod copying;
 mod host;
 

@@ -1,4 +1,6 @@
 // The parts of a job record: where they lie, and what its fields and soft values say.
+#![tactic(auto)]
+
 mod fields;
 mod layout;
 mod values;

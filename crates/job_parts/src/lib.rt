@@ -1,4 +1,6 @@
 // The parts of a job record, put into a buffer: each optional field only where its value is not the one that absence means.
+#![tactic(auto)]
+
 mod bits;
 mod options;
 mod parts;

@@ -1,4 +1,6 @@
 // What a record is refused for, decided before anything is written.
+#![tactic(auto)]
+
 mod shape;
 
 ghost use Rattle.std.specs.Prelude.{◌||◌, ◌≡◌, ◌+◌, ◌*◌, ◌≤◌, ltb, length};

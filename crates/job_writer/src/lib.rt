@@ -1,4 +1,6 @@
 // The writer of job records.
+#![tactic(auto)]
+
 mod host;
 mod whole;
 

@@ -11,8 +11,8 @@ use Rattle.laws.specs.BitLaws.{bits_at, bits_snoc}
 use Rattle.laws.specs.Layer.{half}
 use Rattle.laws.specs.ListCost.{sum_lt, frozen_lt}
 use Rattle.laws.specs.Inverse.{length_input_a, length_input_b, bits_input_a, bits_input_b, bits_evens}
-use Rattle.laws.specs.ArikanPlaces.{⊕-swap, length_added, added_append, evens_added, added_swap}
-use Rattle.laws.specs.ArikanInverse.{arikan_added}
+use Rattle.laws.specs.ArikanPlaces.{⊕-swap, length_added, added_append, evens_added, added_swap_any}
+use Rattle.laws.specs.ArikanInverse.{arikan_added_alike}
 use Rattle.laws.specs.Inputs.{length_input, bits_input}
 
 -- ---- the input of a payload
@@ -95,7 +95,7 @@ input_a_added : {u v : List ℕ} → Bits u → Bits v → length u ≡ length v
 input_a_added {u} {v} s t e =
     input_a_sum (added u v)
     ∙ ap₂ added (evens_added u v e) (input_b_added s t e)
-    ∙ added_swap (bits_evens s) (bits_evens t) (bits_input_b s) (bits_input_b t)
+    ∙ added_swap_any (bits_evens s) (bits_evens t) (bits_input_b s) (bits_input_b t)
     ∙ sym (ap₂ added (input_a_sum u) (input_a_sum v))
 
 interleave_added : (p p' q q' : List ℕ) → interleave (added p p') (added q q') ≡ added (interleave p q) (interleave p' q')
@@ -118,7 +118,7 @@ transform_added (suc m) {u} {v} s t e =
 -- ---- both transforms, and the encoder
 transformed_added : (arikan : Bool) (m : ℕ) {u v : List ℕ} → Bits u → Bits v → length u ≡ length v
     → transform_by arikan m (added u v) ≡ added (transform_by arikan m u) (transform_by arikan m v)
-transformed_added true m s t e = arikan_added m s t e
+transformed_added true m s t e = arikan_added_alike m s t e
 transformed_added false m s t e = transform_added m s t e
 
 -- The code word of the sum of two payloads of one length is the sum of their code words.

@@ -6,7 +6,7 @@ use Rattle.std.proofs.Math.Nat.{suc_inj}
 use Rattle.spec.specs.Bits.{◌⊕◌, Bits, nil, cons}
 use Rattle.spec.specs.Transform.{added, arikan_transform, arikan_inverse}
 use Rattle.laws.specs.BitLaws.{⊕-twice, bits_append, bits_take, bits_drop}
-use Rattle.laws.specs.ArikanPlaces.{length_sum, length_added, added_append, added_swap, bits_added, arikan_halves, length_arikan}
+use Rattle.laws.specs.ArikanPlaces.{length_sum, length_added, added_append, added_swap_any, bits_added, arikan_halves, length_arikan}
 
 added_twice : {v : List ℕ} (w : List ℕ) → Bits v → length v ≡ length w → added (added v w) w ≡ v
 added_twice [] nil e = refl
@@ -109,10 +109,10 @@ same_arikan (suc m) v w e =
       same_arikan m (drop h v) (drop h w) (same_drops h v w e),
     )
 
-pub arikan_added : (m : ℕ) {v w : List ℕ} → Bits v → Bits w → length v ≡ length w → arikan_transform m (added v w) ≡ added (arikan_transform m v) (arikan_transform m w)
+pub arikan_added_alike : (m : ℕ) {v w : List ℕ} → Bits v → Bits w → length v ≡ length w → arikan_transform m (added v w) ≡ added (arikan_transform m v) (arikan_transform m w)
 unfolding arikan_transform
-arikan_added zero s t e = refl
-arikan_added (suc m) {v} {w} s t e =
+arikan_added_alike zero s t e = refl
+arikan_added_alike (suc m) {v} {w} s t e =
     let h : ℕ = 2 ^ m in
     let b : List ℕ = drop h v in
     let d : List ℕ = drop h w in
@@ -124,9 +124,14 @@ arikan_added (suc m) {v} {w} s t e =
     let td : Bits d = bits_drop t h in
     let xy : length x ≡ length y = same_sums h v w e in
     ap₂ ◌++◌
-    (ap (arikan_transform m) (ap₂ added (take_added h v w) (drop_added h v w e) ∙ added_swap ta tc tb td) ∙ arikan_added m (bits_added ta tb) (bits_added tc td) xy)
-    (ap (arikan_transform m) (drop_added h v w e) ∙ arikan_added m tb td (same_drops h v w e))
+    (ap (arikan_transform m) (ap₂ added (take_added h v w) (drop_added h v w e) ∙ added_swap_any ta tc tb td) ∙ arikan_added_alike m (bits_added ta tb) (bits_added tc td) xy)
+    (ap (arikan_transform m) (drop_added h v w e) ∙ arikan_added_alike m tb td (same_drops h v w e))
     ∙ sym (added_append (arikan_transform m x) (arikan_transform m b) (arikan_transform m y) (arikan_transform m d) (same_arikan m x y xy))
+
+-- the same of words that are as long as the transform takes them
+pub arikan_added : (m : ℕ) {v w : List ℕ} → Bits v → Bits w → length v ≡ 2 ^ m → length w ≡ 2 ^ m
+    → arikan_transform m (added v w) ≡ added (arikan_transform m v) (arikan_transform m w)
+arikan_added m s t e f = arikan_added_alike m s t (e ∙ sym f)
 
 pub arikan_own_inverse : (m : ℕ) {c : List ℕ} → Bits c → length c ≡ 2 ^ m → arikan_transform m c ≡ arikan_inverse m c
 unfolding arikan_transform arikan_inverse
@@ -138,5 +143,5 @@ arikan_own_inverse (suc m) {c} t e =
     let ey : length y ≡ 2 ^ m = omega (arith, length-drop (2 ^ m) c) in
     let tx : Bits x = bits_take t (2 ^ m) in
     let ty : Bits y = bits_drop t (2 ^ m) in
-    ap (λ (l : List ℕ). l ++ arikan_transform m y) (arikan_added m tx ty (ex ∙ sym ey))
+    ap (λ (l : List ℕ). l ++ arikan_transform m y) (arikan_added_alike m tx ty (ex ∙ sym ey))
     ∙ ap₂ (λ (a b : List ℕ). added a b ++ b) (arikan_own_inverse m tx ex) (arikan_own_inverse m ty ey)

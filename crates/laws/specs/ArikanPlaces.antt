@@ -63,14 +63,19 @@ odds_added (x ∷ a ∷ v) [] e = absurd (omega (arith, e))
 odds_added (x ∷ a ∷ v) (y ∷ []) e = absurd (omega (arith, e))
 odds_added (x ∷ a ∷ v) (y ∷ b ∷ w) e = ap (λ (l : List ℕ). (a ⊕ b) ∷ l) (odds_added v w (suc_inj (suc_inj e)))
 
-pub added_swap : {a b c d : List ℕ} → Bits a → Bits b → Bits c → Bits d → added (added a b) (added c d) ≡ added (added a c) (added b d)
-added_swap nil u v t = refl
-added_swap (cons p s) nil nil t = refl
-added_swap (cons p s) nil (cons r v) t = refl
-added_swap (cons p s) (cons q u) nil t = refl
-added_swap (cons p s) (cons q u) (cons r v) nil = refl
-added_swap (cons {x = w} p s) (cons {x = x} q u) (cons {x = y} r v) (cons {x = z} o t) =
-    ap₂ (λ (h : ℕ) (l : List ℕ). h ∷ l) (⊕-swap w x y z p q r o) (added_swap s u v t)
+pub added_swap_any : {a b c d : List ℕ} → Bits a → Bits b → Bits c → Bits d → added (added a b) (added c d) ≡ added (added a c) (added b d)
+added_swap_any nil u v t = refl
+added_swap_any (cons p s) nil nil t = refl
+added_swap_any (cons p s) nil (cons r v) t = refl
+added_swap_any (cons p s) (cons q u) nil t = refl
+added_swap_any (cons p s) (cons q u) (cons r v) nil = refl
+added_swap_any (cons {x = w} p s) (cons {x = x} q u) (cons {x = y} r v) (cons {x = z} o t) =
+    ap₂ (λ (h : ℕ) (l : List ℕ). h ∷ l) (⊕-swap w x y z p q r o) (added_swap_any s u v t)
+
+-- the same of words of one length
+pub added_swap : {a b c d : List ℕ} → Bits a → Bits b → Bits c → Bits d → length a ≡ length b → length a ≡ length c → length a ≡ length d
+    → added (added a b) (added c d) ≡ added (added a c) (added b d)
+added_swap s t u v e f g = added_swap_any s t u v
 
 interleave_append : (p q p' q' : List ℕ) → length p ≡ length q → interleave (p ++ p') (q ++ q') ≡ interleave p q ++ interleave p' q'
 interleave_append [] [] p' q' e = refl
@@ -128,7 +133,7 @@ arikan_places (suc m) u t e =
     let ih₂ = arikan_places m w tw ew in
     let ea : added (evens sum) (odds sum) ≡ added va wa
     = ap₂ added (evens_added v w vw) (odds_added v w vw)
-    ∙ added_swap (bits_evens tv) (bits_evens tw) (bits_odds tv) (bits_odds tw) in
+    ∙ added_swap_any (bits_evens tv) (bits_evens tw) (bits_odds tv) (bits_odds tw) in
     let lva : length va ≡ 2 ^ m = length_added (evens v) (odds v) (lev ∙ sym lov) ∙ lev in
     let lwa : length wa ≡ 2 ^ m = length_added (evens w) (odds w) (lew ∙ sym low) ∙ lew in
     let X₁ : List ℕ = arikan_transform m (added va wa) in

@@ -1,4 +1,6 @@
 // Every code word that correlates with the soft values at a mark or above.
+#![tactic(auto)]
+
 mod call;
 mod marks;
 mod passes;

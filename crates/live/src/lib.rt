@@ -2,6 +2,8 @@
 // An entry is one number, cost * 2^32 + place * 32 + parent, so that entries are in order where the numbers are. The parent is below
 // 32 and the place below 2^27. Places are in the lexicographic order of the prefixes: a child's is twice its parent's, plus the bit.
 // Where a place has reached 2^26, one more bit would not fit, and the parents' places are counted anew, by rank.
+#![tactic(auto)]
+
 ghost use Rattle.std.specs.Prelude.{◌≡◌, [], ◌∷◌, ◌+◌, ◌-◌, ◌*◌, ◌%◌, ◌≤◌, ◌<◌, min, length, take, get_or, replicate, leb};
 ghost use Rattle.spec.specs.Decoder.{insert_by, sort_by};
 ghost use Rattle.live.specs.Entries.{code_of, cost_of, place_of, bit_of, parent_of, below, crowded, lex_of, branches, children_of};

@@ -1,4 +1,6 @@
 // The lines of the shift log, each of 43 columns and a line feed.
+#![tactic(auto)]
+
 mod counts;
 mod lines;
 mod scores;

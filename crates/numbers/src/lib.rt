@@ -1,4 +1,6 @@
 // Numbers of one, two and four bytes, low byte first: read from a slice, and put into one. Those of four bytes may be signed.
+#![tactic(auto)]
+
 mod signed;
 
 ghost use Rattle.std.specs.Prelude.{◌≡◌, ◌+◌, ◌*◌, ◌%◌, ◌≤◌, ◌<◌, length};

@@ -1,4 +1,6 @@
 // The correlations of code words whose payloads stand in a row, block by block.
+#![tactic(auto)]
+
 mod block;
 mod generators;
 mod payload_bits;

@@ -1,4 +1,6 @@
 // The quantiser: soft values from a demodulator's complex samples.
+#![tactic(auto)]
+
 mod refusals;
 mod samples;
 

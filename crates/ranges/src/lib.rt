@@ -1,5 +1,7 @@
 // The ranges of what a run of the decoder is asked for: list size, stop position and soft values. Conditions 4 to 7; what a
 // soft value is taken as, and its magnitude.
+#![tactic(auto)]
+
 ghost use Rattle.std.specs.Prelude.{◌≡◌, false, ◌||◌, ◌<◌, length, get_or, pos, nat_abs};
 ghost use Rattle.spec.specs.Faults.{first, some};
 ghost use Rattle.spec.specs.Score.{saturated, taken};

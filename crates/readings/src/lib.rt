@@ -1,4 +1,6 @@
 // The soft value of one part of a sample: a reading, rounded and held, or a gap.
+#![tactic(auto)]
+
 mod steps;
 
 ghost use Rattle.std.specs.Prelude.{◌≡◌};

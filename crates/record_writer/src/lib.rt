@@ -1,4 +1,6 @@
 // What the writers of job and result records share: fields that may be left out, and the answer with the length of what was written.
+#![tactic(auto)]
+
 mod fields;
 mod length;
 

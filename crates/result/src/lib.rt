@@ -1,4 +1,6 @@
 // The two readers of result records: the customer's, and the operator's, who is told nothing of the packed rows.
+#![tactic(auto)]
+
 mod host;
 mod outputs;
 

@@ -1,4 +1,6 @@
 // The parts of a result record before its packed rows: where they lie, and what they say.
+#![tactic(auto)]
+
 mod fields;
 mod layout;
 

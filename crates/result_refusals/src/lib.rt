@@ -1,4 +1,6 @@
 // What a result record is refused for, decided before anything is written.
+#![tactic(auto)]
+
 mod head;
 mod shape;
 mod values;

@@ -1,4 +1,6 @@
 // The writer of result records.
+#![tactic(auto)]
+
 mod host;
 mod parts;
 mod refusals;

@@ -1,4 +1,6 @@
 // What a program writes for a record, as lines in a buffer: a refusal, or a line for the frame and one for each row.
+#![tactic(auto)]
+
 mod lines;
 mod listing;
 

@@ -1,4 +1,6 @@
 // What every crate does to the slices that are lent: set to 0 from a place to the end, for each type of element; copied; measured.
+#![tactic(auto)]
+
 ghost use Rattle.std.specs.Prelude.{◌≡◌, ◌*◌, ◌≤◌, pos, length, replicate};
 ghost use Rattle.slices.specs.Fill.{filled_from};
 

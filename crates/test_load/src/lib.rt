@@ -1,4 +1,6 @@
 // The test load: a job record of a payload and noise that are drawn from a state, the same on every machine.
+#![tactic(auto)]
+
 mod drawn;
 mod host;
 mod refusals;

@@ -1,4 +1,6 @@
 // Bits and numbers put into a buffer as text.
+#![tactic(auto)]
+
 mod bits;
 mod decimals;
 

@@ -1,5 +1,7 @@
 // The transform of a word of bits and its inverse, in place: Arikan's, or the convolutional one. For the latter the halves of a word at a
 // stride are its even and its odd places: two words at twice the stride.
+#![tactic(auto)]
+
 mod arikan;
 mod base;
 mod layer;
