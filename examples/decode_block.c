@@ -2,7 +2,7 @@
  * A host that decodes blocks of soft values with a list, and reads from the ceiling
  * whether a better word can be ruled out.
  *
- * Build, from the repository's top, after `rt staticlib caldurrex`:
+ * Build, from the repository's top, after `make target/staticlib/libcaldurrex.a`:
  *
  *   cc -std=c11 -Iinclude examples/decode_block.c target/staticlib/libcaldurrex.a
  */

@@ -4,7 +4,7 @@
  * nothing in between. Every block is decoded once more on memory that no call has
  * used, and must give the same.
  *
- * Build, from the repository's top, after `rt staticlib caldurrex`:
+ * Build, from the repository's top, after `make target/staticlib/libcaldurrex.a`:
  *
  *   cc -std=c11 -pthread -Iinclude examples/decode_links.c target/staticlib/libcaldurrex.a
  */

@@ -2,7 +2,7 @@
  * A host that goes from the complex samples of a QPSK demodulator to rows: it makes soft
  * values of the samples, decodes them and takes the payload out of the first row.
  *
- * Build, from the repository's top, after `rt staticlib caldurrex`:
+ * Build, from the repository's top, after `make target/staticlib/libcaldurrex.a`:
  *
  *   cc -std=c11 -Iinclude examples/decode_samples.c target/staticlib/libcaldurrex.a
  */

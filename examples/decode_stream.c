@@ -8,7 +8,7 @@
  * Nothing in front of a record says how long it is: its first bytes do. The tool reads no byte
  * past the record, and of one that is refused none past the part that it is refused for.
  *
- * Build, from the repository's top, after `rt staticlib caldurrex`:
+ * Build, from the repository's top, after `make target/staticlib/libcaldurrex.a`:
  *
  *   cc -std=c11 -Iinclude examples/decode_stream.c examples/settings.c target/staticlib/libcaldurrex.a
  */

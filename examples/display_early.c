@@ -5,7 +5,7 @@
  * below it and its score are those of the whole block. Nothing else is known by then:
  * not the bits from the stop position on, not the code word, not the other rows.
  *
- * Build, from the repository's top, after `rt staticlib caldurrex`:
+ * Build, from the repository's top, after `make target/staticlib/libcaldurrex.a`:
  *
  *   cc -std=c11 -Iinclude examples/display_early.c target/staticlib/libcaldurrex.a
  */

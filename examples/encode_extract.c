@@ -1,7 +1,7 @@
 /*
  * A host that encodes payloads and takes them back out of their code words.
  *
- * Build, from the repository's top, after `rt staticlib caldurrex`:
+ * Build, from the repository's top, after `make target/staticlib/libcaldurrex.a`:
  *
  *   cc -std=c11 -Iinclude examples/encode_extract.c target/staticlib/libcaldurrex.a
  */

@@ -3,7 +3,7 @@
  * standard output. Whatever keeps it from that is told in one line on standard error; the
  * status is then 1, and nothing was written.
  *
- * Build, from the repository's top, after `rt staticlib caldurrex`:
+ * Build, from the repository's top, after `make target/staticlib/libcaldurrex.a`:
  *
  *   cc -std=c11 -Iinclude examples/make_record.c examples/settings.c target/staticlib/libcaldurrex.a
  */

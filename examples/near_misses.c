@@ -2,7 +2,7 @@
  * A host that studies near misses: it decodes a noisy block and then lists every code word that
  * comes close to the first row, where a list of the decoder shows only some of them.
  *
- * Build, from the repository's top, after `rt staticlib caldurrex`:
+ * Build, from the repository's top, after `make target/staticlib/libcaldurrex.a`:
  *
  *   cc -std=c11 -Iinclude examples/near_misses.c target/staticlib/libcaldurrex.a
  */

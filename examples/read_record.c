@@ -1,7 +1,7 @@
 /*
  * A host that reads a job record and decodes what it asks for.
  *
- * Build, from the repository's top, after `rt staticlib caldurrex`:
+ * Build, from the repository's top, after `make target/staticlib/libcaldurrex.a`:
  *
  *   cc -std=c11 -Iinclude examples/read_record.c target/staticlib/libcaldurrex.a
  */

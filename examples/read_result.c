@@ -2,7 +2,7 @@
  * A host that writes the result records of two blocks, and shows what the two readers make of
  * them: the customer's, who is told all, and an operator's, who is told nothing of the bits.
  *
- * Build, from the repository's top, after `rt staticlib caldurrex`:
+ * Build, from the repository's top, after `make target/staticlib/libcaldurrex.a`:
  *
  *   cc -std=c11 -Iinclude examples/read_result.c target/staticlib/libcaldurrex.a
  */

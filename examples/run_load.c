@@ -9,7 +9,7 @@
  * goes on from the state that the block before it gave. The clock runs only while the threads are
  * at work, not while blocks are made or judged.
  *
- * Build, from the repository's top, after `rt staticlib caldurrex`:
+ * Build, from the repository's top, after `make target/staticlib/libcaldurrex.a`:
  *
  *   cc -std=c11 -O2 -pthread -Iinclude examples/run_load.c examples/load_round.c examples/load_threads.c \
  *       examples/settings.c target/staticlib/libcaldurrex.a

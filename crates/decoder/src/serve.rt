@@ -1,5 +1,5 @@
 // A call that is served: the live list at the stop position, its rows, and the tables set to 0.
-ghost use Rattle.std.specs.Prelude.{◌≡◌, ◌*◌, length};
+ghost use Rattle.std.specs.Prelude.{◌≡◌, ◌*◌, length, replicate};
 ghost use Rattle.spec.specs.Code.{code};
 ghost use Rattle.spec.specs.Refusals.{room};
 ghost use Rattle.spec.specs.Outcome.{decoding, lent, decode_served};
@@ -10,7 +10,7 @@ use crate::call::Decoded;
 use block_rows::{write_bits, write_costs};
 use live::Live;
 use positions::positions;
-use slices::{clear_tables, fill_bytes};
+use slices::{fill_bytes, fill_words};
 use tables::start::start;
 
 // The live list at stop position p. The inputs, which are written later, serve as working memory.
