@@ -7,7 +7,7 @@ use native.Mathlib.Omega.{arith}
 use native.Mathlib.Nat.{mul_assoc, mul_comm, add-mul, mul-le-mul, mul-le-mul_left, le-mul_of_pos_right, add-zero}
 use lib.ListN.{length}
 use lib.IntN.{ℤ}
-use Rattle.spec.specs.Refusals.{Room, room}
+use Rattle.spec.specs.Refusals.{Room}
 use Rattle.laws.specs.Accepted.{Ruled, size_small}
 use Rattle.laws.specs.MapBits.{enough_bits}
 use Rattle.code.specs.Given.{flags_are}

@@ -1,11 +1,11 @@
 -- A cell: what the tables hold of a node, and when it is right for the node's soft values and decided prefix.
-use Rattle.std.specs.Prelude.{◌≡◌, refl, List, [], ◌∷◌, ◌++◌, Bool, ℕ, zero, suc, ◌+◌, ◌-◌, ◌^◌, ◌<◌, min, length, ℤ}
+use Rattle.std.specs.Prelude.{◌≡◌, refl, List, [], ◌∷◌, ◌++◌, Bool, ℕ, zero, suc, ◌^◌, ◌<◌, min, length, ℤ}
 use Rattle.std.proofs.Common.{sym, ap₂, subst, ◌∙◌, arith, length-append}
 use Rattle.spec.specs.Bits.{Bits}
 use Rattle.laws.specs.Cost.{last, cost}
 use Rattle.laws.specs.Layer.{last_snoc, least}
 use Rattle.laws.specs.Windows.{W4, W3, mask4, win3_odd, win3_even, pack4, at4, at4_pack, top_odd, top_even}
-use Rattle.laws.specs.Nodes.{none_not_even, bits_last, cut, cut_odd, cut_even, Kind, none, odd, even, kind, Shape, s_none, s_odd, s_even, shape, pair_sum, odd_last, node}
+use Rattle.laws.specs.Nodes.{none_not_even, bits_last, cut, cut_odd, cut_even, Kind, none, odd, even, kind, Shape, s_none, s_odd, s_even, shape, pair_sum, odd_last}
 
 -- ---- a cell
 pub record Cell : Type 0 where

@@ -1,14 +1,13 @@
 -- One more bit of a prefix, and where the entries of the halves of a word stand in it.
 use Rattle.std.specs.Prelude.{◌≡◌, refl, List, [], ◌∷◌, ◌++◌, Bool, get_or, ℤ}
-use Prim.Native.Nat.{ℕ, zero, suc, ◌+◌, ◌-◌, ◌^◌, ◌<◌}
+use Prim.Native.Nat.{ℕ, zero, suc, ◌-◌, ◌^◌, ◌<◌}
 use native.Mathlib.Omega.{arith}
 use Rattle.std.proofs.Math.ListN.{length}
 use Rattle.std.proofs.Common.{length-append}
-use Rattle.spec.specs.Bits.{◌⊕◌}
 use Rattle.spec.specs.Transform.{evens, odds}
 use Rattle.laws.specs.Cost.{least_cost, cost}
 pub use Rattle.laws.specs.BitLaws.{⊕-mod, ⊕-xor}
-use Rattle.laws.specs.Layer.{least, double, layer}
+use Rattle.laws.specs.Layer.{least, double}
 
 -- ---- entry i of a half
 module _ {ℓ} {A : Type ℓ} where

@@ -1,13 +1,12 @@
 -- One row more behind those that were kept. Assumes nothing.
-use mathlib.Core.Path.{◌≡◌, refl, sym, ap, ap₂, ◌∙◌}
+use mathlib.Core.Path.{◌≡◌, sym, ap, ap₂, ◌∙◌}
 use mathlib.Core.List.{List, [], ◌∷◌, ◌++◌, map, map-append}
 use Prim.Native.Nat.{ℕ, zero, suc, ◌+◌, ◌*◌, ◌<◌, ◌≤◌}
 use native.Mathlib.Omega.{arith}
 use lib.ListN.{length, take, drop, set, length-append, length-set, length-map, length-take, length-drop}
 use lib.IntN.{ℤ, pos}
 use borrow.Rule.Slice.PartMut.{put_mid, same_len_mid}
-use Rattle.spec.specs.Code.{Code, size, payload_size, input_for}
-use Rattle.spec.specs.Score.{correlation}
+use Rattle.spec.specs.Code.{Code, size, payload_size}
 use Rattle.spec.specs.Outcome.{padded, concat}
 use Rattle.laws.specs.Accepted.{Accepted, flag_count}
 use Rattle.laws.specs.Inputs.{length_input}
@@ -15,7 +14,7 @@ use Rattle.rows.specs.Blocks.{part_put, padded_set, concat_more}
 use Rattle.payload_blocks.specs.Numerals.{bits_numeral}
 use Rattle.payload_blocks.specs.PayloadBlocks.{length_encoded}
 use Rattle.list_words.specs.Hits.{input_at, word_at}
-use Rattle.list_words.specs.Kept.{Kept, RowFits}
+use Rattle.list_words.specs.Kept.{RowFits}
 
 -- ---- the rows are n bytes each
 module _ {c : Code} (a : Accepted c) (q : ℕ) where

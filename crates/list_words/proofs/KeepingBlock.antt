@@ -1,7 +1,7 @@
 -- The loop that keeps the rows of a block. Assumes nothing.
-use mathlib.Core.Path.{◌≡◌, refl, sym, ap, ap₂, subst, ◌∙◌}
-use mathlib.Core.List.{List, [], ◌∷◌, ◌++◌, map, append-nil, append_assoc}
-use Prim.Native.Nat.{ℕ, zero, suc, ◌+◌, ◌*◌, ◌^◌, ◌<◌, ◌≤◌}
+use mathlib.Core.Path.{◌≡◌, refl, sym, ap, subst, ◌∙◌}
+use mathlib.Core.List.{List, [], ◌∷◌, ◌++◌, append-nil, append_assoc}
+use Prim.Native.Nat.{ℕ, suc, ◌+◌, ◌<◌, ◌≤◌}
 use native.Mathlib.Omega.{arith}
 use native.Mathlib.Numerals.{add-one}
 use lib.ListN.{length, take, drop, get_or, replicate, length-take, length-drop, length-append, length-replicate, take-append-drop}
@@ -10,7 +10,7 @@ use lib.Pow.{pow_mono}
 use lib.IntN.{ℤ, pos}
 use Rattle.spec.specs.Code.{Code, payload_size}
 use Rattle.spec.specs.Score.{correlation}
-use Rattle.laws.specs.ListCost.{All, none, more, all_take, all_drop}
+use Rattle.laws.specs.ListCost.{all_take, all_drop}
 use Rattle.correlations.specs.Folding.{wrapped}
 use Rattle.payload_blocks.specs.Payloads.{correlations}
 use Rattle.payload_blocks.specs.Numerals.{get_d_map}

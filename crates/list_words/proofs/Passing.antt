@@ -1,8 +1,8 @@
 -- The passes over all payloads, block by block. Assumes nothing.
-use mathlib.Core.Path.{◌≡◌, refl, sym, ap, ap₂, subst, ◌∙◌}
+use mathlib.Core.Path.{◌≡◌, refl, sym, ap, subst, ◌∙◌}
 use mathlib.Core.List.{List, [], ◌++◌, map}
-use Prim.Native.Nat.{ℕ, zero, suc, ◌+◌, ◌-◌, ◌*◌, ◌^◌, ◌<◌, ◌≤◌}
-use native.Mathlib.Nat.{mul-le-mul_right, suc-mul, not-le_of_lt}
+use Prim.Native.Nat.{ℕ, suc, ◌+◌, ◌-◌, ◌*◌, ◌^◌, ◌<◌, ◌≤◌}
+use native.Mathlib.Nat.{mul-le-mul_right, suc-mul}
 use native.Mathlib.Omega.{arith}
 use borrow.Author.Tests.{ltb-true, ltb-false}
 use lib.Dec.{ltb}
@@ -11,7 +11,7 @@ use lib.Seq.{take-add, take_all}
 use lib.Pow.{pow-add, pow_mono, pow_pos}
 use lib.IntN.{ℤ, pos}
 use mathlib.Core.Bool.{Bool, true, false}
-use Rattle.spec.specs.Code.{Code, size, payload_size}
+use Rattle.spec.specs.Code.{Code, payload_size}
 use Rattle.spec.specs.Score.{taken}
 use Rattle.laws.specs.ListCost.{All, all_take, all_drop}
 use Rattle.laws.specs.Accepted.{size_small}

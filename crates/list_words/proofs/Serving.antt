@@ -3,18 +3,17 @@ use mathlib.Core.Path.{◌≡◌, sym, ap, ap₂, ◌∙◌}
 use mathlib.Core.Bool.{Bool, cond}
 use mathlib.Core.List.{List, map, map-map}
 use Prim.Native.Nat.{ℕ, ◌<◌, ◌≤◌}
-use native.Mathlib.Omega.{arith}
 use borrow.Author.Tests.{lt-ltb, le-ltb}
 use lib.Dec.{ltb}
 use lib.ListN.{length, replicate, length-map}
 use lib.IntN.{ℤ, pos}
-use Rattle.spec.specs.Code.{Code, code_transform}
-use Rattle.spec.specs.Score.{correlation, taken}
+use Rattle.spec.specs.Code.{Code}
+use Rattle.spec.specs.Score.{taken}
 use Rattle.spec.specs.Decoder.{Row}
 use Rattle.spec.specs.Outcome.{Lent, lent, room_of, padded, concat}
-use Rattle.spec.specs.WordList.{counted, refused_count, Listing, listing, crowded, listed_rows, listed_or19, list_served}
+use Rattle.spec.specs.WordList.{counted, refused_count, listing, crowded, listed_rows, listed_or19, list_served}
 use Rattle.payload_blocks.specs.Payloads.{correlations}
-use Rattle.list_words.specs.Hits.{hits, input_at, word_at, row_at}
+use Rattle.list_words.specs.Hits.{hits, row_at}
 use Rattle.list_words.specs.RowsAbove.{rows_above}
 use Rattle.list_words.specs.Listed.{Listed}
 

@@ -1,5 +1,5 @@
 -- The rows that were kept, one behind the other in slices that held 0, and the room for one more.
-use Rattle.std.specs.Prelude.{◌≡◌, List, [], ◌∷◌, map, ℕ, ◌+◌, ◌*◌, ◌^◌, ◌<◌, ◌≤◌, length, take, drop, ℤ, pos, nat_abs}
+use Rattle.std.specs.Prelude.{◌≡◌, List, map, ℕ, ◌+◌, ◌*◌, ◌^◌, ◌<◌, ◌≤◌, length, take, drop, ℤ, pos, nat_abs}
 use Rattle.spec.specs.Code.{Code, size, payload_size}
 use Rattle.spec.specs.Score.{correlation, taken}
 use Rattle.spec.specs.Outcome.{padded, concat}

@@ -4,12 +4,12 @@ use Rattle.std.proofs.Math.Path.{refl, ap, ap₂}
 use Rattle.std.proofs.Common.{sym, ◌∙◌, arith}
 use Rattle.std.proofs.Math.Bool.{true, false}
 use mathlib.Core.List.{List, [], ◌∷◌, map}
-use Prim.Native.Nat.{ℕ, zero, suc, ◌+◌, ◌<◌}
+use Prim.Native.Nat.{ℕ, suc, ◌+◌, ◌<◌}
 use Rattle.std.specs.Int.Signed.{le_z}
 use Rattle.spec.specs.Code.{Code, payload_size, input_for, code_transform, encoded}
 use Rattle.spec.specs.Score.{correlation}
 use Rattle.spec.specs.Decoder.{Row}
-use Rattle.spec.specs.WordsAbove.{kept, code_inputs, word_row, reaches, words_above}
+use Rattle.spec.specs.WordsAbove.{kept, word_row, reaches, words_above}
 use Rattle.payload_blocks.specs.Payloads.{numeral, payloads, correlations}
 use Rattle.payload_blocks.specs.Numerals.{length_payloads, payload_at}
 use Rattle.payload_blocks.specs.InputsInOrder.{inputs_are}

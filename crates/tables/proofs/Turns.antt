@@ -1,6 +1,6 @@
 -- The layer where the walk down ends, where it got an odd bit, and the layers below it, which stay.
 use mathlib.Core.Path.{◌≡◌, refl, ◌∙◌, sym, ap, ap₂, subst}
-use mathlib.Core.Logic.{◌⊎◌, ⊎_elim}
+use mathlib.Core.Logic.{⊎_elim}
 use mathlib.Core.Bool.{Bool, false, cond}
 use mathlib.Core.List.{List, [], ◌∷◌, ◌++◌}
 use Prim.Native.Nat.{ℕ, zero, suc, ◌+◌, ◌*◌, ◌-◌, ◌%◌, ◌<◌, ◌≤◌, ◌^◌}
@@ -13,7 +13,7 @@ use Rattle.laws.specs.Cost.{last}
 use Rattle.laws.specs.Layer.{Odd, last_snoc}
 use Rattle.laws.specs.Places.{carry, carry_all}
 use Rattle.laws.specs.Nodes.{bits_snoc, bits_last, bits_cut, bits_node_prefix, cut, cut_odd, cut_even, child_a, child_b}
-use Rattle.laws.specs.Nodes.{child_a_step, child_b_step, odd, even, kind, is_even, pair_sum, odd_last, phase, shape}
+use Rattle.laws.specs.Nodes.{child_a_step, child_b_step, odd, kind, is_even, pair_sum, odd_last, phase, shape}
 use Rattle.laws.specs.Nodes.{node_even, node_odd, node_prefix, node_soft, length_node_prefix, by_child, kind_of_odd}
 use Rattle.laws.specs.Nodes.{odd_shape}
 use Rattle.laws.specs.Cells.{Cell, Good, good_ext}

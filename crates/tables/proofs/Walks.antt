@@ -14,7 +14,7 @@ use Rattle.laws.specs.Cost.{last}
 use Rattle.laws.specs.Layer.{last_snoc}
 use Rattle.laws.specs.Places.{carry}
 use Rattle.laws.specs.Nodes.{bits_snoc, bits_last, bits_cut, bits_node_prefix, ⊕-lt, cut, child_a, child_b, child_a_step}
-use Rattle.laws.specs.Nodes.{child_b_step, Kind, even, kind, is_even, pair_sum, odd_last, phase, node, node_even}
+use Rattle.laws.specs.Nodes.{child_b_step, Kind, even, kind, is_even, pair_sum, odd_last, phase, node_even}
 use Rattle.laws.specs.Nodes.{node_odd, node_prefix, node_soft, length_node_prefix, by_child, down, down_is, kind_of_even}
 use Rattle.laws.specs.Cells.{Good}
 use Rattle.tables.specs.Tab.{slot_start, WroteRows, mix, push_f, FitBits}

@@ -2,7 +2,7 @@
 use Rattle.std.specs.Prelude.{◌≡◌, List, Bool, ℕ, suc, ◌+◌, ◌*◌, ◌-◌, ◌<◌, ◌^◌, get_or, length, ℤ}
 use Rattle.spec.specs.Bits.{Bits}
 use Rattle.laws.specs.Cost.{last, magnitude}
-use Rattle.laws.specs.Nodes.{node_soft, node_prefix, odd, even, kind, phase, is_even}
+use Rattle.laws.specs.Nodes.{node_soft, node_prefix, odd, kind, phase, is_even}
 use Rattle.laws.specs.Cells.{Cell, Good}
 use Rattle.tables.specs.Tab.{slot_start}
 

@@ -1,15 +1,14 @@
 -- `job_refusals::shape::locate_paired` meets its contract: at each `return` the tests that were passed, and the one that was not.
 -- Assumes nothing.
 use mathlib.Core.Path.{◌≡◌, sym, ap, ◌∙◌}
-use mathlib.Core.Bool.{true≢false}
 use mathlib.Core.List.{List}
 use Prim.Native.Nat.{ℕ, ◌+◌, ◌*◌, ◌/◌, ◌%◌, ◌≤◌, ◌<◌}
 use native.Mathlib.Omega.{arith}
 use borrow.Author.Rules.{rules}
-use borrow.Author.Tests.{lt-ltb, ltb-true, ltb-false}
+use borrow.Author.Tests.{lt-ltb}
 use lib.ListN.{length}
 use Rattle.spec.specs.Record.{two_at, fields, positions, pairs_at, pair_count, soft_at, map_at}
-use Rattle.laws.specs.FirstFault.{refuses, here, same, same_of}
+use Rattle.laws.specs.FirstFault.{refuses, here}
 use Rattle.job_refusals.specs.Shape.{length_faults}
 use Rattle.job_refusals.proofs.Answers.{located, count_stands, pairs_behind, too_many, paired_wrong}
 use Rattle.job_refusals.proofs.shape.locate_paired.Statement.{statement}

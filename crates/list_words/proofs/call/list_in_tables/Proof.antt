@@ -12,7 +12,7 @@ use mir.Syntax.{w32}
 use mir.ValLaws.{to_z-of_z}
 use Rattle.spec.specs.Code.{Code, code}
 use Rattle.laws.specs.Accepted.{size_small}
-use Rattle.list_words.specs.Listed.{Listed, ServeFits}
+use Rattle.list_words.specs.Listed.{Listed}
 use Rattle.list_words.proofs.call.list_in_tables.Statement.{statement}
 use Rattle.list_words.proofs.call.list_in_tables.Tie as tie
 

@@ -1,20 +1,19 @@
 -- `list_words::rows_kept::keep` meets its contract: the row is kept, or nothing is changed. Assumes nothing.
-use mathlib.Core.Path.{◌≡◌, sym, ap, ap₂, subst, ◌∙◌}
+use mathlib.Core.Path.{◌≡◌, sym, ap, ap₂, ◌∙◌}
 use mathlib.Core.Bool.{Bool, true, false, cond}
-use mathlib.Core.List.{List, [], ◌∷◌, ◌++◌, append-nil}
-use Prim.Native.Nat.{ℕ, ◌+◌}
+use mathlib.Core.List.{[], ◌∷◌, append-nil}
+use Prim.Native.Nat.{ℕ}
 use native.Mathlib.Omega.{arith}
 use borrow.Author.Rules.{rules}
-use lib.ListN.{length, length-append}
+use lib.ListN.{length-append}
 use lib.IntN.{ℤ}
 use lib.Signed.{le_z}
 use mir.Syntax.{w32}
 use mir.Val.{to_z, of_z}
 use mir.ValLaws.{to_z-of_z}
-use Rattle.spec.specs.Code.{Code, code}
 use Rattle.correlations.specs.Folding.{wrapped}
 use Rattle.list_words.specs.Hits.{counts, hits}
-use Rattle.list_words.specs.Kept.{Kept, Small}
+use Rattle.list_words.specs.Kept.{Small}
 use Rattle.list_words.proofs.rows_kept.keep.Statement.{statement}
 use Rattle.list_words.proofs.rows_kept.keep.Tie as tie
 

@@ -3,12 +3,11 @@
 use mathlib.Core.Path.{◌≡◌, sym, ap, subst, ◌∙◌}
 use mathlib.Core.List.{List, map}
 use Prim.Native.Nat.{ℕ, ◌/◌, ◌^◌, ◌<◌}
-use native.Mathlib.Omega.{arith}
 use borrow.Author.Rules.{rules}
 use lib.ListN.{length}
 use lib.IntN.{ℤ}
 use Rattle.spec.specs.Bits.{Bits}
-use Rattle.spec.specs.Code.{Code, code, size, payload_size, encoded}
+use Rattle.spec.specs.Code.{Code, code, payload_size, encoded}
 use Rattle.spec.specs.Score.{correlation, taken}
 use Rattle.laws.specs.ListCost.{All}
 use Rattle.correlations.specs.Folding.{wrapped, columns, spanned}

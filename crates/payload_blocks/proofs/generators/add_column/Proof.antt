@@ -2,7 +2,7 @@
 use Prim.Native.Nat.{◌-◌}
 use native.Mathlib.Omega.{arith}
 use borrow.Author.Rules.{rules}
-use lib.ListN.{length, length-set}
+use lib.ListN.{length}
 use Rattle.payload_blocks.proofs.Turns.{Raising, raising_none, raising_turn, raising_done, column_below}
 use Rattle.payload_blocks.proofs.generators.add_column.Statement.{statement}
 use Rattle.payload_blocks.proofs.generators.add_column.Tie as tie

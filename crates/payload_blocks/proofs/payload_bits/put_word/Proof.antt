@@ -1,6 +1,5 @@
 -- `payload_blocks::payload_bits::put_word` meets its contract: the word of the payload that was put. Assumes nothing.
 use mathlib.Core.Path.{◌≡◌, ap, subst, sym, ◌∙◌}
-use mathlib.Core.List.{List}
 use Prim.Native.Nat.{ℕ}
 use borrow.Author.Rules.{rules}
 use lib.ListN.{length}

@@ -1,4 +1,3 @@
-use Prim.Native.Nat.{◌-◌}
 use native.Mathlib.Omega.{arith}
 use borrow.Author.Rules.{rules}
 use Rattle.tables.proofs.Ending.{odd_asks, end_odd, ground_asks, end_ground, size_some, first_asks, end_first}

@@ -1,4 +1,4 @@
-use Rattle.std.proofs.Common.{◌-◌, false, ap, ◌∙◌, rules}
+use Rattle.std.proofs.Common.{false, ap, ◌∙◌, rules}
 use Rattle.windows.specs.declared.window.Eight.{Eight}
 use Rattle.windows.specs.Op.{sixteen, wrap_of, entry}
 use Rattle.windows.proofs.kernel.lift.Statement.{statement}

@@ -1,4 +1,4 @@
-use Rattle.std.proofs.Common.{ℕ, ◌-◌, ◌%◌, false, List, ap, ◌∙◌, arith, rules}
+use Rattle.std.proofs.Common.{ℕ, ◌%◌, false, List, ap, ◌∙◌, arith, rules}
 use Rattle.windows.specs.declared.window.Eight.{Eight}
 use Rattle.windows.specs.Op.{wrap_of, read_b, entry, eight, sixteen, flipped}
 use Rattle.windows.proofs.Operator.{node_wrote}

@@ -1,4 +1,4 @@
-use Rattle.std.proofs.Common.{◌≡◌, ◌-◌, ℤ, ap, ◌∙◌, ap₂, w16, SFits, to_z, of_z, rules}
+use Rattle.std.proofs.Common.{◌≡◌, ℤ, ap, ◌∙◌, ap₂, w16, SFits, to_z, of_z, rules}
 use mir.ValLaws.{to_z-of_z}
 use Rattle.windows.specs.Op.{rearranged, bottom_order_at}
 use Rattle.windows.specs.Start.{pair_costs, word_costs}
