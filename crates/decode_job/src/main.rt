@@ -1,4 +1,6 @@
 // Decodes one record from standard input and prints its rows, or why it is refused.
+#![tactic(auto)]
+
 mod output;
 
 use output::write_output;

@@ -1,6 +1,8 @@
 // Makes the calls of its input, one a line, and prints what each gave. A line is a description, a colon, the call's name and what the
 // call is given: labels and numbers, one space before each. The description is printed in front of the answer, and a line with no colon
 // is printed alone. Everything lent holds 5 before the call.
+#![tactic(auto)]
+
 mod blocks;
 mod coding;
 mod decoding;

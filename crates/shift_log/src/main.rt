@@ -1,4 +1,6 @@
 // The page for the shift log: result records back to back from standard input, a line for each as soon as it is there, and a last line.
+#![tactic(auto)]
+
 ghost use Rattle.std.specs.Prelude.{◌≡◌, ◌≤◌, length, take};
 ghost use Rattle.log_page.specs.Reading.{extent};
 

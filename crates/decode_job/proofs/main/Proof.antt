@@ -7,34 +7,34 @@ use lib.Seq.{length-take-le}
 use Rattle.decode_job.proofs.main.Statement.{statement}
 use Rattle.decode_job.proofs.main.Tie as tie
 
-slice_aggregate_read_full : tie.Need-slice-aggregate-read-full
+slice_aggregate_read_full : tie.Need-slice_bounds-read_full-end
 slice_aggregate_read_full c = search rules
 
-read_full_requires : tie.Need-read-full-requires
+read_full_requires : tie.Need-read_full-n-requires
 read_full_requires c κs = search rules
 
-array_share_prefix_input : tie.Need-array-share-prefix-input
+array_share_prefix_input : tie.Need-slice_bounds-input-end
 array_share_prefix_input c = search rules
 
-slice_aggregate_write_output : tie.Need-slice-aggregate-write-output
+slice_aggregate_write_output : tie.Need-slice_bounds-write_output-end
 slice_aggregate_write_output c = search rules
 
-slice_aggregate_write_output_2 : tie.Need-slice-aggregate-write-output-2
+slice_aggregate_write_output_2 : tie.Need-slice_bounds-write_output-end-2
 slice_aggregate_write_output_2 c = search rules
 
-write_output_requires : tie.Need-write-output-requires
+write_output_requires : tie.Need-write_output-count-requires
 write_output_requires c κs = search rules
 
-array_share_prefix_out : tie.Need-array-share-prefix-out
+array_share_prefix_out : tie.Need-slice_bounds-out-end
 array_share_prefix_out c = search rules
 
-slice_aggregate_write_all : tie.Need-slice-aggregate-write-all
+slice_aggregate_write_all : tie.Need-slice_bounds-write_all-end
 slice_aggregate_write_all c =
-    let o = c.before.before.write-output in
-    let k : length o.new.1.0 ≡ 665 = o.auto.1.0 in
-    sym (length-take-le o.result o.new.1.0 (omega (arith, o.ensures.fits)))
+    let o = c.before.before.write_output-count in
+    let k : length o.new.out ≡ 665 = o.auto.out in
+    sym (length-take-le o.result o.new.out (omega (arith, o.ensures.fits)))
 
-write_all_requires : tie.Need-write-all-requires
+write_all_requires : tie.Need-write_all-requires
 write_all_requires c κs = search rules
 
 returns : tie.Need-returns

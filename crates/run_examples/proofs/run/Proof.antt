@@ -3,48 +3,48 @@ use Rattle.std.proofs.Common.{◌+◌, ◌-◌, ◌≤◌, length, rules}
 use Rattle.run_examples.proofs.run.Statement.{statement}
 use Rattle.run_examples.proofs.run.Tie as tie
 
-abbrev invariant-loop : tie.invariant-loop
-invariant-loop text at₀ at = at ≤ length text + 1
+abbrev invariant-loop-at : tie.invariant-loop-at
+invariant-loop-at text at₀ at = at ≤ length text + 1
 
-abbrev decreases-loop : tie.decreases-loop
-decreases-loop text at₀ at = length text + 1 - at
+abbrev decreases-loop-at : tie.decreases-loop-at
+decreases-loop-at text at₀ at = length text + 1 - at
 
-loop_holds : tie.Need-loop-init invariant-loop decreases-loop
+loop_holds : tie.Need-loop-at-init invariant-loop-at decreases-loop-at
 loop_holds c = search rules
 
-find_requires : tie.Need-find-requires invariant-loop decreases-loop
+find_requires : tie.Need-find-end-requires invariant-loop-at decreases-loop-at
 find_requires c κs = search rules
 
-sub_run_line : tie.Need-overflow-sub-run-line invariant-loop decreases-loop
+sub_run_line : tie.Need-slice_bounds-run_line-count invariant-loop-at decreases-loop-at
 sub_run_line c = search rules
 
-part_run_line_start : tie.Need-slice-bounds-run-line-start invariant-loop decreases-loop
+part_run_line_start : tie.Need-slice_bounds-run_line-start invariant-loop-at decreases-loop-at
 part_run_line_start c = search rules
 
-part_run_line_end : tie.Need-slice-bounds-run-line-end invariant-loop decreases-loop
+part_run_line_end : tie.Need-slice_bounds-run_line-end invariant-loop-at decreases-loop-at
 part_run_line_end c = search rules
 
-run_line_requires : tie.Need-run-line-requires invariant-loop decreases-loop
+run_line_requires : tie.Need-run_line-requires invariant-loop-at decreases-loop-at
 run_line_requires c κs = tt
 
-add_at : tie.Need-overflow-add-at invariant-loop decreases-loop
+add_at : tie.Need-overflow_add-at invariant-loop-at decreases-loop-at
 add_at c = search rules
 
-loop_less : tie.Need-loop-smaller invariant-loop decreases-loop
+loop_less : tie.Need-loop-at-smaller invariant-loop-at decreases-loop-at
 loop_less c = search rules
 
-loop_again : tie.Need-loop-preserved invariant-loop decreases-loop
+loop_again : tie.Need-loop-at-preserved invariant-loop-at decreases-loop-at
 loop_again c = search rules
 
-returns : tie.Need-returns invariant-loop decreases-loop
+returns : tie.Need-returns invariant-loop-at decreases-loop-at
 returns c = tt
 
 pub run_spec : {M : Type 1} → statement M
 run_spec =
     tie.close
     (tie.spec
-    invariant-loop
-    decreases-loop
+    invariant-loop-at
+    decreases-loop-at
     loop_holds
     find_requires
     sub_run_line

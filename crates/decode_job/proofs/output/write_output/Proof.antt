@@ -5,25 +5,25 @@ use Rattle.place.specs.Put.{begins_same}
 use Rattle.decode_job.proofs.output.write_output.Statement.{statement}
 use Rattle.decode_job.proofs.output.write_output.Tie as tie
 
-write_refused_requires : tie.Need-write-refused-requires
+write_refused_requires : tie.Need-write_refused-requires
 write_refused_requires c κs = search rules
 
-same_length : tie.Need-same-length
+same_length : tie.Need-shape_of-out-then-input-gt4096
 same_length c = search rules
 
-returns : tie.Need-returns
+returns : tie.Need-returns-then-input-gt4096
 returns c =
-    begins_same (too_long c.before.before.before.before.before.before.before.args.input.now c.before.before.before.before.if1.true) c.before.before.write_refused.ensures
+    begins_same (too_long c.before.before.before.before.before.before.before.args.input.now c.before.before.before.before.if-input-gt4096.true) c.before.before.write_refused.ensures
 
-write_record_requires : tie.Need-write-record-requires
+write_record_requires : tie.Need-write_record-requires
 write_record_requires c κs = search rules
 
-same_length_2 : tie.Need-same-length-2
+same_length_2 : tie.Need-shape_of-out
 same_length_2 c = search rules
 
-returns_2 : tie.Need-returns-2
+returns_2 : tie.Need-returns
 returns_2 c =
-    begins_same (not_too_long c.before.before.before.before.before.before.before.args.input.now c.before.before.before.before.if1.false) c.before.before.write-record.ensures
+    begins_same (not_too_long c.before.before.before.before.before.before.before.args.input.now c.before.before.before.before.if-input-gt4096.false) c.before.before.write_record.ensures
 
 pub write_output_spec : {M : Type 1} → statement M
 write_output_spec =

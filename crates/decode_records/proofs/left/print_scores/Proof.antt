@@ -3,49 +3,52 @@ use Prim.Native.Nat.{◌-◌, ◌≤◌}
 use native.Mathlib.Omega.{arith}
 use borrow.Author.Rules.{rules}
 use lib.ListN.{length}
-use mathlib.Core.Logic.{⊎_elim}
+use Rattle.decode_records.proofs.left.print_scores.Lts.{then-s-i-ne0, else-s-i-ne0}
 use Rattle.decode_records.proofs.left.print_scores.Statement.{statement}
 use Rattle.decode_records.proofs.left.print_scores.Tie as tie
 
-abbrev invariant-loop : tie.invariant-loop
-invariant-loop s from count₀ i₀ count i = count ≤ i
+abbrev invariant-loop-i : tie.invariant-loop-i
+invariant-loop-i s from count₀ i₀ count i = count ≤ i
 
-abbrev decreases-loop : tie.decreases-loop
-decreases-loop s from count₀ i₀ count i = length s - i
+abbrev decreases-loop-i : tie.decreases-loop-i
+decreases-loop-i s from count₀ i₀ count i = length s - i
 
-loop_holds : tie.Need-loop-init invariant-loop decreases-loop
+loop_holds : tie.Need-loop-i-init invariant-loop-i decreases-loop-i
 loop_holds c = search rules
 
-mul_if1 : tie.Need-overflow-mul-if1 invariant-loop decreases-loop
+mul_if1 : tie.Need-offset_bounds-s-i invariant-loop-i decreases-loop-i
 mul_if1 c = search rules
 
-shared_slice_copy_out_if1 : tie.Need-shared-slice-copy-out-if1 invariant-loop decreases-loop
+shared_slice_copy_out_if1 : tie.Need-bounds-s-i invariant-loop-i decreases-loop-i
 shared_slice_copy_out_if1 c = search rules
 
-add_count : tie.Need-overflow-add-count invariant-loop decreases-loop
+add_count : tie.Need-overflow_add-count invariant-loop-i decreases-loop-i
 add_count c = search rules
 
-add_i : tie.Need-overflow-add-i invariant-loop decreases-loop
+add_i : tie.Need-overflow_add-i invariant-loop-i decreases-loop-i
 add_i c = search rules
 
-loop_less : tie.Need-loop-smaller invariant-loop decreases-loop
+loop_less : tie.Need-loop-i-smaller invariant-loop-i decreases-loop-i
 loop_less c = search rules
 
-loop_again : tie.Need-loop-preserved invariant-loop decreases-loop
-loop_again c = ⊎_elim (λ w. omega arith) (λ w. omega arith) c.if1.branch
+loop_again : tie.Need-loop-i-preserved invariant-loop-i decreases-loop-i
+loop_again c = elim c.if-s-i-ne0.branch [
+  | then-s-i-ne0 w ↦ omega arith
+  | else-s-i-ne0 w ↦ omega arith
+]
 
-print_count_requires : tie.Need-print-count-requires invariant-loop decreases-loop
+print_count_requires : tie.Need-print_count-requires invariant-loop-i decreases-loop-i
 print_count_requires c κs = search rules
 
-returns : tie.Need-returns invariant-loop decreases-loop
+returns : tie.Need-returns invariant-loop-i decreases-loop-i
 returns c = search rules
 
 pub print_scores_spec : {M : Type 1} → statement M
 print_scores_spec =
     tie.close
     (tie.spec
-    invariant-loop
-    decreases-loop
+    invariant-loop-i
+    decreases-loop-i
     loop_holds
     mul_if1
     shared_slice_copy_out_if1

@@ -5,75 +5,75 @@ use lib.ListN.{length}
 use Rattle.decode_records.proofs.records.decode_records.Statement.{statement}
 use Rattle.decode_records.proofs.records.decode_records.Tie as tie
 
-abbrev invariant-loop : tie.invariant-loop
-invariant-loop input from₀ from = (2 ≤ from) × (from ≤ length input + 2)
+abbrev invariant-loop-from : tie.invariant-loop-from
+invariant-loop-from input from₀ from = (2 ≤ from) × (from ≤ length input + 2)
 
-abbrev decreases-loop : tie.decreases-loop
-decreases-loop input from₀ from = length input + 2 - from
+abbrev decreases-loop-from : tie.decreases-loop-from
+decreases-loop-from input from₀ from = length input + 2 - from
 
-loop_holds : tie.Need-loop-init invariant-loop decreases-loop
+loop_holds : tie.Need-loop-from-init invariant-loop-from decreases-loop-from
 loop_holds c = search rules
 
-sub_number : tie.Need-overflow-sub-number invariant-loop decreases-loop
+sub_number : tie.Need-overflow_sub-from invariant-loop-from decreases-loop-from
 sub_number c = search rules
 
-shared_slice_read_number : tie.Need-shared-slice-read-number invariant-loop decreases-loop
+shared_slice_read_number : tie.Need-bounds-input-from invariant-loop-from decreases-loop-from
 shared_slice_read_number c = search rules
 
-sub_number_2 : tie.Need-overflow-sub-number-2 invariant-loop decreases-loop
+sub_number_2 : tie.Need-overflow_sub-from-in-loop-from invariant-loop-from decreases-loop-from
 sub_number_2 c = search rules
 
-shared_slice_read_number_2 : tie.Need-shared-slice-read-number-2 invariant-loop decreases-loop
+shared_slice_read_number_2 : tie.Need-bounds-input-from-in-loop-from invariant-loop-from decreases-loop-from
 shared_slice_read_number_2 c = search rules
 
-number_requires : tie.Need-number-requires invariant-loop decreases-loop
+number_requires : tie.Need-number-len-requires invariant-loop-from decreases-loop-from
 number_requires c κs = search rules
 
-sub_if1 : tie.Need-overflow-sub-if1 invariant-loop decreases-loop
+sub_if1 : tie.Need-overflow_sub-input invariant-loop-from decreases-loop-from
 sub_if1 c = search rules
 
-add_to : tie.Need-overflow-add-to invariant-loop decreases-loop
+add_to : tie.Need-overflow_add-to invariant-loop-from decreases-loop-from
 add_to c = search rules
 
-sub_decode_record : tie.Need-overflow-sub-decode-record invariant-loop decreases-loop
+sub_decode_record : tie.Need-slice_bounds-decode_record-count invariant-loop-from decreases-loop-from
 sub_decode_record c = search rules
 
-part_decode_record_start : tie.Need-slice-bounds-decode-record-start invariant-loop decreases-loop
+part_decode_record_start : tie.Need-slice_bounds-decode_record-start invariant-loop-from decreases-loop-from
 part_decode_record_start c = search rules
 
-part_decode_record_end : tie.Need-slice-bounds-decode-record-end invariant-loop decreases-loop
+part_decode_record_end : tie.Need-slice_bounds-decode_record-end invariant-loop-from decreases-loop-from
 part_decode_record_end c = search rules
 
-decode_record_requires : tie.Need-decode-record-requires invariant-loop decreases-loop
+decode_record_requires : tie.Need-decode_record-requires invariant-loop-from decreases-loop-from
 decode_record_requires c κs = search rules
 
-add_from : tie.Need-overflow-add-from invariant-loop decreases-loop
+add_from : tie.Need-overflow_add-from invariant-loop-from decreases-loop-from
 add_from c = search rules
 
-loop_less : tie.Need-loop-smaller invariant-loop decreases-loop
+loop_less : tie.Need-loop-from-smaller invariant-loop-from decreases-loop-from
 loop_less c = search rules
 
-loop_again : tie.Need-loop-preserved invariant-loop decreases-loop
+loop_again : tie.Need-loop-from-preserved invariant-loop-from decreases-loop-from
 loop_again c = search rules
 
-add_if2 : tie.Need-overflow-add-if2 invariant-loop decreases-loop
+add_if2 : tie.Need-overflow_add-input invariant-loop-from decreases-loop-from
 add_if2 c = search rules
 
-print_cut_requires : tie.Need-print-cut-requires invariant-loop decreases-loop
+print_cut_requires : tie.Need-print_cut-requires invariant-loop-from decreases-loop-from
 print_cut_requires c κs = search rules
 
-returns : tie.Need-returns invariant-loop decreases-loop
+returns : tie.Need-returns-then-from-input invariant-loop-from decreases-loop-from
 returns c = search rules
 
-returns_2 : tie.Need-returns-2 invariant-loop decreases-loop
+returns_2 : tie.Need-returns-else-from-input invariant-loop-from decreases-loop-from
 returns_2 c = search rules
 
 pub decode_records_spec : {M : Type 1} → statement M
 decode_records_spec =
     tie.close
     (tie.spec
-    invariant-loop
-    decreases-loop
+    invariant-loop-from
+    decreases-loop-from
     loop_holds
     sub_number
     shared_slice_read_number

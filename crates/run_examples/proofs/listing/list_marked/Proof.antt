@@ -4,46 +4,46 @@ use Rattle.run_examples.proofs.Lengths.{part_length}
 use Rattle.run_examples.proofs.listing.list_marked.Statement.{statement}
 use Rattle.run_examples.proofs.listing.list_marked.Tie as tie
 
-array_borrow_prefix_number_tables : tie.Need-array-borrow-prefix-number-tables
+array_borrow_prefix_number_tables : tie.Need-slice_bounds-number_tables-end
 array_borrow_prefix_number_tables c = search rules
 
-slice_aggregate_numbers : tie.Need-slice-aggregate-numbers
+slice_aggregate_numbers : tie.Need-slice_bounds-numbers-end
 slice_aggregate_numbers c = part_length c.before.before.before.args.x.numbers 260 5 (omega arith)
 
-array_borrow_prefix_byte_tables : tie.Need-array-borrow-prefix-byte-tables
+array_borrow_prefix_byte_tables : tie.Need-slice_bounds-byte_tables-end
 array_borrow_prefix_byte_tables c = search rules
 
-slice_aggregate_bytes : tie.Need-slice-aggregate-bytes
+slice_aggregate_bytes : tie.Need-slice_bounds-bytes-end
 slice_aggregate_bytes c = part_length c.before.before.before.before.args.x.bytes 300 5 (omega arith)
 
-array_borrow_prefix_input_rows : tie.Need-array-borrow-prefix-input-rows
+array_borrow_prefix_input_rows : tie.Need-slice_bounds-input_rows-end
 array_borrow_prefix_input_rows c = search rules
 
-slice_aggregate_inputs : tie.Need-slice-aggregate-inputs
+slice_aggregate_inputs : tie.Need-slice_bounds-inputs-end
 slice_aggregate_inputs c = part_length c.before.before.before.before.before.args.x.inputs 32 5 (omega arith)
 
-array_borrow_prefix_code_rows : tie.Need-array-borrow-prefix-code-rows
+array_borrow_prefix_code_rows : tie.Need-slice_bounds-code_rows-end
 array_borrow_prefix_code_rows c = search rules
 
-slice_aggregate_words : tie.Need-slice-aggregate-words
+slice_aggregate_words : tie.Need-slice_bounds-words-end
 slice_aggregate_words c = part_length c.before.before.before.before.before.before.args.x.words 32 5 (omega arith)
 
-array_borrow_prefix_row_scores : tie.Need-array-borrow-prefix-row-scores
+array_borrow_prefix_row_scores : tie.Need-slice_bounds-row_scores-end
 array_borrow_prefix_row_scores c = search rules
 
-slice_aggregate_scores : tie.Need-slice-aggregate-scores
+slice_aggregate_scores : tie.Need-slice_bounds-scores-end
 slice_aggregate_scores c = part_length c.before.before.before.before.before.before.before.args.x.scores 4 _ (omega arith)
 
-list_words_requires : tie.Need-list-words-requires
+list_words_requires : tie.Need-list_words-answer-requires
 list_words_requires c κs = tt
 
-say_counted_requires : tie.Need-say-counted-requires
+say_counted_requires : tie.Need-say_counted-requires
 say_counted_requires c κs = tt
 
-say_outputs_requires : tie.Need-say-outputs-requires
+say_outputs_requires : tie.Need-say_outputs-requires
 say_outputs_requires c κs = tt
 
-say_tables_requires : tie.Need-say-tables-requires
+say_tables_requires : tie.Need-say_tables-requires
 say_tables_requires c κs = tt
 
 returns : tie.Need-returns

@@ -3,39 +3,39 @@ use Rattle.std.proofs.Common.{◌-◌, ◌≤◌, length, rules}
 use Rattle.run_examples.proofs.listing.sum_bytes.Statement.{statement}
 use Rattle.run_examples.proofs.listing.sum_bytes.Tie as tie
 
-abbrev invariant-loop : tie.invariant-loop
-invariant-loop bytes sum₀ i₀ sum i = i ≤ length bytes
+abbrev invariant-loop-i : tie.invariant-loop-i
+invariant-loop-i bytes sum₀ i₀ sum i = i ≤ length bytes
 
-abbrev decreases-loop : tie.decreases-loop
-decreases-loop bytes sum₀ i₀ sum i = length bytes - i
+abbrev decreases-loop-i : tie.decreases-loop-i
+decreases-loop-i bytes sum₀ i₀ sum i = length bytes - i
 
-loop_holds : tie.Need-loop-init invariant-loop decreases-loop
+loop_holds : tie.Need-loop-i-init invariant-loop-i decreases-loop-i
 loop_holds c = search rules
 
-shared_slice_read_with_byte : tie.Need-shared-slice-read-with-byte invariant-loop decreases-loop
+shared_slice_read_with_byte : tie.Need-bounds-bytes-i invariant-loop-i decreases-loop-i
 shared_slice_read_with_byte c = search rules
 
-with_byte_requires : tie.Need-with-byte-requires invariant-loop decreases-loop
+with_byte_requires : tie.Need-with_byte-sum-requires invariant-loop-i decreases-loop-i
 with_byte_requires c κs = tt
 
-add_i : tie.Need-overflow-add-i invariant-loop decreases-loop
+add_i : tie.Need-overflow_add-i invariant-loop-i decreases-loop-i
 add_i c = search rules
 
-loop_less : tie.Need-loop-smaller invariant-loop decreases-loop
+loop_less : tie.Need-loop-i-smaller invariant-loop-i decreases-loop-i
 loop_less c = search rules
 
-loop_again : tie.Need-loop-preserved invariant-loop decreases-loop
+loop_again : tie.Need-loop-i-preserved invariant-loop-i decreases-loop-i
 loop_again c = search rules
 
-returns : tie.Need-returns invariant-loop decreases-loop
+returns : tie.Need-returns invariant-loop-i decreases-loop-i
 returns c = tt
 
 pub sum_bytes_spec : {M : Type 1} → statement M
 sum_bytes_spec =
     tie.close
     (tie.spec
-    invariant-loop
-    decreases-loop
+    invariant-loop-i
+    decreases-loop-i
     loop_holds
     shared_slice_read_with_byte
     with_byte_requires

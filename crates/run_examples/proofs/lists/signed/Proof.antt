@@ -4,25 +4,25 @@ use Rattle.signs.specs.Signs.{below_zero_fits}
 use Rattle.run_examples.proofs.lists.signed.Statement.{statement}
 use Rattle.run_examples.proofs.lists.signed.Tie as tie
 
-low : (c : tie.Else1) → 65535 - c.before.args.number % 65536 < 32768
-low c = let h = c.if1.false in omega arith
+low : (c : tie.Else-x-lt32768) → 65535 - c.before.args.number % 65536 < 32768
+low c = let h = c.if-x-lt32768.false in omega arith
 
-cast_result : tie.Need-overflow-cast-result
+cast_result : tie.Need-overflow_cast-result
 cast_result c = search rules
 
-sub_result : tie.Need-overflow-sub-result
+sub_result : tie.Need-overflow_sub-result
 sub_result c = search rules
 
-cast_result_2 : tie.Need-overflow-cast-result-2
+cast_result_2 : tie.Need-overflow_cast-result-else-x-lt32768
 cast_result_2 c = search rules
 
-sub_result_2 : tie.Need-overflow-sub-result-2
+sub_result_2 : tie.Need-overflow_sub-result-else-x-lt32768
 sub_result_2 c = below_zero_fits w16 (65535 - c.before.args.number % 65536) (low c)
 
-returns : tie.Need-returns
+returns : tie.Need-returns-then-x-lt32768
 returns c = search rules
 
-returns_2 : tie.Need-returns-2
+returns_2 : tie.Need-returns-else-x-lt32768
 returns_2 c = search rules
 
 pub signed_spec : {M : Type 1} → statement M

@@ -3,48 +3,48 @@ use Rattle.std.proofs.Common.{◌≡◌, ◌-◌, ◌≤◌, length, rules}
 use Rattle.run_examples.proofs.results.copy_scores.Statement.{statement}
 use Rattle.run_examples.proofs.results.copy_scores.Tie as tie
 
-abbrev invariant-loop : tie.invariant-loop
-invariant-loop given scores₀ i₀ scores i = (i ≤ length given) × (length given ≤ length scores₀) × (length scores ≡ length scores₀)
+abbrev invariant-loop-i : tie.invariant-loop-i
+invariant-loop-i given scores₀ i₀ scores i = (i ≤ length given) × (length given ≤ length scores₀) × (length scores ≡ length scores₀)
 
-abbrev decreases-loop : tie.decreases-loop
-decreases-loop given scores₀ i₀ scores i = length given - i
+abbrev decreases-loop-i : tie.decreases-loop-i
+decreases-loop-i given scores₀ i₀ scores i = length given - i
 
-loop_holds : tie.Need-loop-init invariant-loop decreases-loop
+loop_holds : tie.Need-loop-i-init invariant-loop-i decreases-loop-i
 loop_holds c = search rules
 
-shared_slice_read_score : tie.Need-shared-slice-read-score invariant-loop decreases-loop
+shared_slice_read_score : tie.Need-bounds-given-i invariant-loop-i decreases-loop-i
 shared_slice_read_score c = search rules
 
-score_requires : tie.Need-score-requires invariant-loop decreases-loop
+score_requires : tie.Need-score-requires invariant-loop-i decreases-loop-i
 score_requires c κs = search rules
 
-mul_t4 : tie.Need-overflow-mul-t4 invariant-loop decreases-loop
+mul_t4 : tie.Need-offset_bounds-scores-i invariant-loop-i decreases-loop-i
 mul_t4 c = search rules
 
-slice_set_from_scores : tie.Need-slice-set-from-scores invariant-loop decreases-loop
+slice_set_from_scores : tie.Need-bounds-scores-i invariant-loop-i decreases-loop-i
 slice_set_from_scores c = search rules
 
-add_i : tie.Need-overflow-add-i invariant-loop decreases-loop
+add_i : tie.Need-overflow_add-i invariant-loop-i decreases-loop-i
 add_i c = search rules
 
-loop_less : tie.Need-loop-smaller invariant-loop decreases-loop
+loop_less : tie.Need-loop-i-smaller invariant-loop-i decreases-loop-i
 loop_less c = search rules
 
-loop_again : tie.Need-loop-preserved invariant-loop decreases-loop
+loop_again : tie.Need-loop-i-preserved invariant-loop-i decreases-loop-i
 loop_again c = search rules
 
-same_length : tie.Need-same-length invariant-loop decreases-loop
+same_length : tie.Need-shape_of-scores invariant-loop-i decreases-loop-i
 same_length c = search rules
 
-returns : tie.Need-returns invariant-loop decreases-loop
+returns : tie.Need-returns invariant-loop-i decreases-loop-i
 returns c = search rules
 
 pub copy_scores_spec : {M : Type 1} → statement M
 copy_scores_spec =
     tie.close
     (tie.spec
-    invariant-loop
-    decreases-loop
+    invariant-loop-i
+    decreases-loop-i
     loop_holds
     shared_slice_read_score
     score_requires

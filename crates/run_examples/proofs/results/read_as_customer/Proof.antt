@@ -4,31 +4,28 @@ use Rattle.run_examples.proofs.Lengths.{part_length}
 use Rattle.run_examples.proofs.results.read_as_customer.Statement.{statement}
 use Rattle.run_examples.proofs.results.read_as_customer.Tie as tie
 
-array_borrow_prefix_space : tie.Need-array-borrow-prefix-space
+array_borrow_prefix_space : tie.Need-slice_bounds-space-end
 array_borrow_prefix_space c = search rules
 
-slice_aggregate_scores : tie.Need-slice-aggregate-scores
+slice_aggregate_scores : tie.Need-slice_bounds-scores-end
 slice_aggregate_scores c = let s = c.before.before in part_length s.args.room 3 (pos 5) (omega (arith, s.requires.0))
 
-array_borrow_prefix_rows : tie.Need-array-borrow-prefix-rows
+array_borrow_prefix_rows : tie.Need-slice_bounds-rows-end
 array_borrow_prefix_rows c = search rules
 
-slice_aggregate_inputs : tie.Need-slice-aggregate-inputs
+slice_aggregate_inputs : tie.Need-slice_bounds-inputs-end
 slice_aggregate_inputs c = let s = c.before.before.before in part_length s.args.bytes 9 5 (omega (arith, s.requires.1))
 
-read_result_requires : tie.Need-read-result-requires
+read_result_requires : tie.Need-read_result-answer-requires
 read_result_requires c κs = search rules
 
-say_answer_requires : tie.Need-say-answer-requires
+say_answer_requires : tie.Need-say_answer-requires
 say_answer_requires c κs = search rules
 
-say_scores_requires : tie.Need-say-scores-requires
+say_scores_requires : tie.Need-say_scores-requires
 say_scores_requires c κs = search rules
 
-slice_aggregate_say_spaced : tie.Need-slice-aggregate-say-spaced
-slice_aggregate_say_spaced c = search rules
-
-say_spaced_requires : tie.Need-say-spaced-requires
+say_spaced_requires : tie.Need-say_spaced-requires
 say_spaced_requires c κs = search rules
 
 returns : tie.Need-returns
@@ -45,6 +42,5 @@ read_as_customer_spec =
     read_result_requires
     say_answer_requires
     say_scores_requires
-    slice_aggregate_say_spaced
     say_spaced_requires
     returns)

@@ -4,19 +4,19 @@ use Rattle.run_examples.proofs.Lengths.{part_length}
 use Rattle.run_examples.proofs.results.read_as_operator.Statement.{statement}
 use Rattle.run_examples.proofs.results.read_as_operator.Tie as tie
 
-array_borrow_prefix_space : tie.Need-array-borrow-prefix-space
+array_borrow_prefix_space : tie.Need-slice_bounds-space-end
 array_borrow_prefix_space c = search rules
 
-slice_aggregate_scores : tie.Need-slice-aggregate-scores
+slice_aggregate_scores : tie.Need-slice_bounds-scores-end
 slice_aggregate_scores c = part_length c.before.before.args.room 3 (pos 5) (omega arith)
 
-read_result_operator_requires : tie.Need-read-result-operator-requires
+read_result_operator_requires : tie.Need-read_result_operator-answer-requires
 read_result_operator_requires c κs = search rules
 
-say_answer_requires : tie.Need-say-answer-requires
+say_answer_requires : tie.Need-say_answer-requires
 say_answer_requires c κs = search rules
 
-say_scores_requires : tie.Need-say-scores-requires
+say_scores_requires : tie.Need-say_scores-requires
 say_scores_requires c κs = search rules
 
 returns : tie.Need-returns

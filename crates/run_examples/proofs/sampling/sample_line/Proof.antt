@@ -3,35 +3,35 @@ use Rattle.std.proofs.Common.{◌≡◌, length, sym, arith, length-take-le, rul
 use Rattle.run_examples.proofs.sampling.sample_line.Statement.{statement}
 use Rattle.run_examples.proofs.sampling.sample_line.Tie as tie
 
-slice_aggregate_read_fields : tie.Need-slice-aggregate-read-fields
+slice_aggregate_read_fields : tie.Need-slice_bounds-read_fields-end
 slice_aggregate_read_fields c = search rules
 
-read_fields_requires : tie.Need-read-fields-requires
+read_fields_requires : tie.Need-read_fields-from-requires
 read_fields_requires c κs = search rules
 
-slice_aggregate_read_bytes : tie.Need-slice-aggregate-read-bytes
+slice_aggregate_read_bytes : tie.Need-slice_bounds-read_bytes-end
 slice_aggregate_read_bytes c = search rules
 
-read_bytes_requires : tie.Need-read-bytes-requires
+read_bytes_requires : tie.Need-read_bytes-a-requires
 read_bytes_requires c κs = tt
 
-array_read_least : tie.Need-array-read-least
+array_read_least : tie.Need-bounds-fields-1
 array_read_least c = search rules
 
-least_requires : tie.Need-least-requires
+least_requires : tie.Need-least-room-requires
 least_requires c κs = tt
 
-array_read_sample : tie.Need-array-read-sample
+array_read_sample : tie.Need-bounds-fields-0
 array_read_sample c = search rules
 
-array_share_prefix_samples : tie.Need-array-share-prefix-samples
+array_share_prefix_samples : tie.Need-slice_bounds-samples-end
 array_share_prefix_samples c = search rules
 
-slice_aggregate_sample : tie.Need-slice-aggregate-sample
+slice_aggregate_sample : tie.Need-slice_bounds-sample-end
 slice_aggregate_sample c =
-    let o = c.before.before.before.read-bytes in
-    let k : length o.new.1.1.0 ≡ 33 = o.auto.1.1.0 in
-    sym (length-take-le o.result.len o.new.1.1.0 (omega (arith, o.ensures)))
+    let o = c.before.before.before.read_bytes-a in
+    let k : length o.new.bytes ≡ 33 = o.auto.bytes in
+    sym (length-take-le o.result.len o.new.bytes (omega (arith, o.ensures)))
 
 sample_requires : tie.Need-sample-requires
 sample_requires c κs = search rules

@@ -3,12 +3,12 @@ use Rattle.std.proofs.Common.{sym, arith, length-take-le}
 use Rattle.run_examples.proofs.say.say_part.Statement.{statement}
 use Rattle.run_examples.proofs.say.say_part.Tie as tie
 
-slice_aggregate_write_all : tie.Need-slice-aggregate-write-all
+slice_aggregate_write_all : tie.Need-slice_bounds-write_all-end
 slice_aggregate_write_all c =
-    let a = c.before.before.args in
+    let a = c.before.args in
     sym (length-take-le a.len a.out.now (omega arith))
 
-write_all_requires : tie.Need-write-all-requires
+write_all_requires : tie.Need-write_all-requires
 write_all_requires c κs = tt
 
 returns : tie.Need-returns
