@@ -1,5 +1,5 @@
 -- What a step leaves: counts within their bounds, and a record more where it is not the last.
-use Rattle.std.proofs.Common.{◌≡◌, sym, ◌∙◌, arith, rules, take, length, false}
+use Rattle.std.proofs.Common.{◌≡◌, sym, ◌∙◌, arith, rules, take, false}
 use Rattle.log_page.specs.Counts.{step_leaves}
 use Rattle.shift_log.proofs.main.Goals as goal
 
