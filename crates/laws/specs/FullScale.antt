@@ -3,9 +3,9 @@
 use Rattle.std.specs.Prelude.{◌≡◌, ℕ, length, ℤ, negsuc}
 use Rattle.std.proofs.Common.{sym, ◌∙◌}
 use Rattle.std.proofs.Math.Path.{ap, ap₂}
-use mathlib.Core.List.{List, ◌∷◌, ◌++◌, map-append}
+use mathlib.Core.List.{List}
 use Rattle.spec.specs.Code.{Code, code_transform}
-use Rattle.spec.specs.Score.{saturated, taken}
+use Rattle.spec.specs.Score.{taken}
 use Rattle.spec.specs.Decoder.{rows, ceiling}
 use Rattle.spec.specs.Faults.{settled, some}
 use Rattle.spec.specs.Refusals.{Room, out_of_range}
@@ -20,9 +20,6 @@ abbrev pub next_lowest : ℤ
 next_lowest = negsuc 2046
 
 -- ---- lists that are taken alike: equally long, and both in range or neither
-alike_at : (ys zs : List ℤ) → taken (ys ++ lowest ∷ zs) ≡ taken (ys ++ next_lowest ∷ zs)
-alike_at ys zs = map-append saturated ys (lowest ∷ zs) ∙ sym (map-append saturated ys (next_lowest ∷ zs))
-
 module _ (ys zs : List ℤ) (alike : taken ys ≡ taken zs) where
   length_alike : length ys ≡ length zs
   length_alike = sym (length_taken ys) ∙ ap length alike ∙ length_taken zs
@@ -44,8 +41,3 @@ module _ (ys zs : List ℤ) (alike : taken ys ≡ taken zs) where
     unfolding decode_outcome
     taken_alike x =
         ap₂ (λ (k : ℕ) (o : Decoding). settled k (λ j. decoding (refused_by j) x) o) (refusal_alike (room_of x)) (served_alike (room_of x))
-
--- A call with −2,048 at some place has the outcome of the call with −2,047 there: the answer and all that was lent.
-pub full_scale : (c : Code) (l p : ℕ) (ys zs : List ℤ) (x : Lent)
-    → decode_outcome c l p (ys ++ lowest ∷ zs) x ≡ decode_outcome c l p (ys ++ next_lowest ∷ zs) x
-full_scale c l p ys zs x = taken_alike (ys ++ lowest ∷ zs) (ys ++ next_lowest ∷ zs) (alike_at ys zs) c l p x

@@ -5,7 +5,8 @@ use Prim.Native.Nat.{ℕ, zero, suc, ◌+◌, ◌*◌, ◌/◌, ◌%◌, ◌^◌
 use Rattle.std.specs.Float.Ieee.{nearest}
 use Rattle.std.specs.Float.Ieee.Nearest.{closest, closest_same, nearest-ge}
 use Rattle.spec.specs.Samples.{rounded, nearest_to}
-use Rattle.spec.specs.NearestIsNearest.{Nearest, is_nearest, only_nearest}
+use Rattle.spec.specs.NearestIsNearest.{Nearest}
+use Rattle.spec.proofs.NearestIsNearest.{is_nearest, only_nearest}
 
 -- ---- as the logic's own floats round
 rounded_is : (q : ℕ) (o : Ordering) → rounded q o ≡ nearest q o
