@@ -12,7 +12,7 @@ use Rattle.laws.specs.Agreement.{Favours, Allows, Each, each_allows}
 use Rattle.laws.specs.DecodeCall.{AcceptedCall}
 use Rattle.search.specs.FirstRow.{first_row}
 use Rattle.search.specs.Ceiling.{ceiling_of}
-use Rattle.search.specs.CleanBlock.{ceiling_at_the_sum, first_row_is_sent}
+use Rattle.search.proofs.CleanBlock.{ceiling_at_the_sum, first_row_is_sent}
 use Rattle.code.specs.Given.{Given}
 use Rattle.encoder.specs.EncodeCall.{encodes}
 use Rattle.round_trip.specs.RoundTrip.{word_written, extract_after_encode}

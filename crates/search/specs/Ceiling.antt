@@ -1,5 +1,5 @@
--- The ceiling over the whole code: 02, wish 5. A decoder call's ceiling against every word of the code, at any stop position, and
--- what its equality with the first score says of the first row at stop n.
+-- The ceiling over the whole code: 02, wish 5. A decoder call's ceiling against every word of the code, at any stop position. What its equality
+-- with the first score says of the first row at stop n stands in proofs/Ceiling.antt.
 use Rattle.std.specs.Prelude.{◌≡◌, take, drop, pos}
 use Rattle.std.proofs.Common.{sym, ◌∙◌, length-take, length-drop, take-append-drop}
 use Rattle.std.proofs.Math.Path.{ap, subst}
@@ -13,7 +13,7 @@ use Rattle.std.specs.Int.Signed.{le_z}
 use Rattle.spec.specs.Bits.{Bits, nil}
 use Rattle.spec.specs.Code.{Code, size, frozen, payload_size, input_for, code_transform, encoded}
 use Rattle.spec.specs.Score.{correlation, largest, score, taken}
-use Rattle.spec.specs.Decoder.{Row, children, score_of, live, row_of, live_by, dropped_by, ceiling_by, ceiling}
+use Rattle.spec.specs.Decoder.{Row, children, score_of, row_of, live_by, dropped_by, ceiling_by, ceiling}
 use Rattle.spec.specs.ScoreIsLargest.{no_completion_above}
 use Rattle.spec.specs.RowCount.{length_frozen}
 use Rattle.spec.specs.Outcome.{Answer, decoded, refused_by, Lent, room_of, Decoding, decode_served, decode_outcome}
@@ -26,10 +26,9 @@ use Rattle.laws.specs.CodeScore.{code_score}
 use Rattle.laws.specs.Taken.{length_taken}
 use Rattle.laws.specs.ListCost.{goes}
 use Rattle.laws.specs.DecodeCall.{AcceptedCall, accepted_faults, accepted_is, map_right, soft_long}
-use Rattle.search.specs.ListSearch.{In, leads_in}
 use Rattle.search.specs.SearchCeiling.{none_above_ceiling}
-use Rattle.search.specs.CodeInputs.{OfPayload, input_follows, live_input}
-use Rattle.search.specs.FirstRow.{first_row, some_list, stop_inside, first_of_call}
+use Rattle.search.specs.CodeInputs.{OfPayload, input_follows}
+use Rattle.search.specs.FirstRow.{some_list, stop_inside}
 
 -- ---- the statements' words
 -- the ceiling that a call gives; a refused one gives none
@@ -72,10 +71,10 @@ module _ (T' : List ℕ → List ℕ) (c : Code) (y : List ℤ) (l : ℕ) where
       (λ i k. prefixes_reach u (length_input c t ∙ flags) (bits_input c t) i (omega arith))
 
   -- the row of a path of n bits: nothing is filled up, and nothing is left free in the score
-  abbrev whole_row : List ℕ → Row
+  abbrev pub whole_row : List ℕ → Row
   whole_row u = record { input = u; word = T' u; score = correlation y (T' u) }
 
-  row_of_whole : (u : List ℕ) → length u ≡ size c → row_of T' c y l u ≡ whole_row u
+  pub row_of_whole : (u : List ℕ) → length u ≡ size c → row_of T' c y l u ≡ whole_row u
   unfolding score largest
   row_of_whole u e = let none_left : size c - length u ≡ 0 = omega arith in rw (none_left, append-nil u)
 
@@ -108,34 +107,7 @@ ceiling_at_stop_0 c l soft x a =
     ∙ ap (score_from (magnitude y)) (cost_empty c.arikan c.m y)
     ∙ +ℤ_idr (pos (magnitude y))
 
-module _ (c : Code) (l : ℕ) (soft : List ℤ) (x : Lent) (a : AcceptedCall c l (size c) soft x) where
+module _ (c : Code) (l : ℕ) (soft : List ℤ) (x : Lent) where
   -- what an accepted call at stop n comes to
-  abbrev whole : Decoding
+  abbrev pub whole : Decoding
   whole = decode_outcome c l (size c) soft x
-
-  -- At stop n the first row is a row of the code.
-  pub first_row_in_code : CodeRow c soft (first_row (size c) whole)
-  unfolding encoded
-  first_row_in_code =
-      let f = first_of_call c l (size c) soft x a in
-      let s : List ℕ → ℤ = score_of (code_transform c) c (taken soft) l in
-      let g = live_input c s l (subst (λ (n : ℕ). In f.prefix (live (code_transform c) c (taken soft) l n)) (sym (flags c l (size c) soft x a)) (leads_in s f.ahead_of)) in
-      record {
-        payload = g.payload;
-        long = g.long;
-        bits = g.bits;
-        is = f.is ∙ row_of_whole (code_transform c) c (taken soft) l f.prefix f.long ∙ ap (whole_row (code_transform c) c (taken soft) l) g.is;
-      }
-
-  -- At stop n, with ceiling and first score equal, the first row is a best word: a row of the code, and no word of the code correlates higher.
-  pub first_row_is_best : ceiling_of whole.answer ≡ (first_row (size c) whole).score → BestRow c soft (first_row (size c) whole)
-  first_row_is_best e = record { in_code = first_row_in_code; none_above = subst (NoneAbove c soft) e (no_code_word_above c l (size c) soft x a) }
-
--- Then no list size gains: the first row of another accepted call at stop n for the same code and soft values scores no higher.
-pub no_list_size_gains : (c : Code) (l l' : ℕ) (soft : List ℤ) (x x' : Lent) → AcceptedCall c l (size c) soft x → AcceptedCall c l' (size c) soft x'
-    → ceiling_of (decode_outcome c l (size c) soft x).answer ≡ (first_row (size c) (decode_outcome c l (size c) soft x)).score
-    → T (le_z (first_row (size c) (decode_outcome c l' (size c) soft x')).score (first_row (size c) (decode_outcome c l (size c) soft x)).score)
-no_list_size_gains c l l' soft x x' a a' e =
-    let r = first_row_in_code c l' soft x' a' in
-    subst (λ (z : ℤ). T (le_z z (first_row (size c) (decode_outcome c l (size c) soft x)).score)) (sym (ap (λ (q : Row). q.score) r.is))
-    ((first_row_is_best c l soft x a e).none_above r.payload r.long r.bits)

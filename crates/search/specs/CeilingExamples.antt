@@ -1,8 +1,7 @@
 -- The ceiling by 01's sixth example and by three more codes with the same soft values, one with a pair and one with Arikan's transform: the first score alone is
 -- no bound on the words of a code, and a ceiling above the first score does not say that a longer list would gain.
-use Rattle.std.specs.Prelude.{◌≡◌, refl, true, false, List, [], ◌∷◌, ℕ, replicate, T, ℤ, pos, negsuc, nat_abs}
-use Rattle.std.proofs.Common.{ap, arith}
-use Rattle.std.specs.Int.Signed.{le_z}
+use Rattle.std.specs.Prelude.{◌≡◌, refl, true, false, List, [], ◌∷◌, ℕ, replicate, ℤ, pos, negsuc}
+use Rattle.std.proofs.Common.{arith}
 use Rattle.spec.specs.Bits.{nil, cons, bits_of, unpacked}
 use Rattle.spec.specs.Transform.{transform, arikan_transform}
 use Rattle.spec.specs.Code.{Code, code, size, frozen, frozen_bit, input_for, encoded}
@@ -15,7 +14,7 @@ use Rattle.spec.specs.Examples.{word4, y₂, frozen123}
 use Rattle.laws.specs.DecodeCall.{AcceptedCall}
 use Rattle.search.specs.FirstRow.{first_row}
 use Rattle.search.specs.FirstRowExamples.{row, followed}
-use Rattle.search.specs.Ceiling.{ceiling_of, NoneAbove, BestRow, first_row_is_best, no_list_size_gains}
+use Rattle.search.specs.Ceiling.{ceiling_of, NoneAbove, BestRow}
 
 -- a code of four positions with 1 and 2 frozen
 unfoldable pub frozen12 : Code
@@ -41,23 +40,10 @@ pub first_rows_and_ceilings : found frozen123 1 ∷ found frozen123 2 ∷ found 
 unfolding frozen12 lent4 y₂ frozen123 bits_of unpacked transform frozen frozen_bit largest score children live_by dropped_by ceiling_by rows first some past_end decode_refusal decode_served decode_outcome
 first_rows_and_ceilings = refl
 
--- no list size gains over list size 1 there
-pub none_gains : (l : ℕ) (x : Lent) → AcceptedCall frozen12 l (size frozen12) y₂ x
-    → T (le_z (first_row (size frozen12) (decode_outcome frozen12 l (size frozen12) y₂ x)).score (found frozen12 1).0.score)
-unfolding frozen12 lent4 y₂ bits_of unpacked transform frozen frozen_bit largest score children live_by dropped_by ceiling_by rows first some past_end decode_refusal decode_served decode_outcome
-none_gains l x a = no_list_size_gains frozen12 2 l y₂ lent4 x refl a refl
-
 -- the statement of `first_row_is_best` the other way round: where the first row is a best word, the ceiling is its score
 abbrev pub Converse : Type 0
 Converse = (c : Code) (l : ℕ) (soft : List ℤ) (x : Lent) → AcceptedCall c l (size c) soft x → BestRow c soft (first_row (size c) (decode_outcome c l (size c) soft x))
     → ceiling_of (decode_outcome c l (size c) soft x).answer ≡ (first_row (size c) (decode_outcome c l (size c) soft x)).score
-
--- is false
-pub no_converse : Converse → ⊥
-unfolding frozen12 lent4 y₂ bits_of unpacked transform frozen frozen_bit largest score children live_by dropped_by ceiling_by rows first some past_end decode_refusal decode_served decode_outcome
-no_converse claim =
-    let same : pos 8 ≡ pos 2 = claim frozen12 1 y₂ lent4 refl (first_row_is_best frozen12 2 y₂ lent4 refl refl) in
-    absurd (omega (arith, ap nat_abs same))
 
 -- the statement of `no_code_word_above` for the first score alone
 abbrev pub FirstScoreAlone : Type 0

@@ -1,20 +1,20 @@
--- Blocks whose soft values speak for a word of the code. No score of an accepted decoder call is above the sum of the magnitudes. Where
--- no soft value speaks against some word of the code, the ceiling is that sum. Where each agrees with the bit of the word and none is 0, the
--- word's input comes first at every stop position, at list size 1 too: its prefixes score the sum, and no other prefix does.
-use Rattle.std.specs.Prelude.{◌≡◌, refl, take, pos}
+-- Blocks whose soft values speak for a word of the code. No score of an accepted decoder call is above the sum of the magnitudes, nor is its
+-- ceiling. Where each soft value agrees with the bit of the word and none is 0, the prefixes of the word's input score the sum, and no other
+-- prefix does. What follows for the ceiling and the first row stands in proofs/CleanBlock.antt.
+use Rattle.std.specs.Prelude.{◌≡◌, take, pos}
 use Rattle.std.proofs.Math.Path.{sym, ap, subst}
-use Rattle.std.proofs.Common.{ap₂, ◌∙◌, take_at, take_all, length-take-le, le→leb}
-use mathlib.Core.List.{List, ◌++◌, map, append-nil}
+use Rattle.std.proofs.Common.{◌∙◌, take_at, le→leb}
+use mathlib.Core.List.{List, ◌++◌, map}
 use Prim.Native.Nat.{ℕ, zero, suc, ◌-◌, ◌≤◌}
 use native.Mathlib.Omega.{arith}
 use Rattle.std.proofs.Math.ListN.{length, replicate, length-append}
 use Rattle.std.proofs.Math.Dec.{T}
 use Rattle.std.proofs.Math.IntN.{ℤ}
 use Rattle.std.specs.Int.Signed.{le_z}
-use Rattle.spec.specs.Bits.{Bits, nil}
-use Rattle.spec.specs.Code.{Code, size, frozen, payload_size, input_for, code_transform, encoded}
+use Rattle.spec.specs.Bits.{Bits}
+use Rattle.spec.specs.Code.{Code, size, frozen, input_for, code_transform, encoded}
 use Rattle.spec.specs.Score.{correlation, taken}
-use Rattle.spec.specs.Decoder.{Row, children, score_of, live, row_of, rows}
+use Rattle.spec.specs.Decoder.{Row, score_of, rows}
 use Rattle.spec.specs.SignedOrder.{le_z_trans, le_z_antisym}
 use Rattle.spec.specs.ScoreIsLargest.{a_completion_attains}
 use Rattle.spec.specs.Outcome.{Lent, Decoding, decode_served, decode_outcome}
@@ -22,15 +22,12 @@ use Rattle.laws.specs.BitLaws.{bits_append}
 use Rattle.laws.specs.Cost.{magnitude}
 use Rattle.laws.specs.CodeTransform.{transform_injective, length_transformed, bits_transformed}
 use Rattle.laws.specs.Inputs.{length_input, bits_input}
-use Rattle.laws.specs.ListCost.{All, none, more, all_append, all_under, Prefix, children_prefix}
+use Rattle.laws.specs.ListCost.{All, none, more, all_append, all_under, Prefix}
 use Rattle.laws.specs.EveryScore.{score_has, rows_have, ceiling_has}
-use Rattle.laws.specs.Agreement.{Favours, Allows, Each, each_allows, favours_taken, allows_taken, allowed_at_sum, none_above_sum, only_at_sum}
+use Rattle.laws.specs.Agreement.{Favours, Each, each_allows, favours_taken, allows_taken, allowed_at_sum, none_above_sum, only_at_sum}
 use Rattle.laws.specs.DecodeCall.{AcceptedCall, accepted_is}
-use Rattle.search.specs.ListSearch.{Leads, leads_same}
-use Rattle.search.specs.SoleLeader.{Sole, sole_leads}
-use Rattle.search.specs.CodeInputs.{input_follows}
-use Rattle.search.specs.FirstRow.{first_row, known_at, some_list, stop_inside, first_of_call}
-use Rattle.search.specs.Ceiling.{ceiling_of, prefixes_reach, flags, ceiling_is, no_code_word_above}
+use Rattle.search.specs.SoleLeader.{Sole}
+use Rattle.search.specs.Ceiling.{ceiling_of, prefixes_reach, ceiling_is}
 
 -- ---- the statements' words
 -- the sum of the magnitudes of soft values, as they are taken
@@ -64,14 +61,6 @@ module _ (c : Code) (l p : ℕ) (soft : List ℤ) (x : Lent) (a : AcceptedCall c
   pub ceiling_not_above : AtMostSum soft (ceiling_of (decode_outcome c l p soft x).answer)
   ceiling_not_above = subst (AtMostSum soft) (sym (ceiling_is c l p soft x a)) (ceiling_has (AtMostSum soft) (taken soft) (none_above_sum (taken soft)) (code_transform c) c l p)
 
-  -- Where no soft value speaks against the word of some payload, the ceiling is the sum, at every stop position and list size.
-  pub ceiling_at_the_sum : (payload : List ℕ) → length payload ≡ payload_size c → Bits payload → Each Allows soft (encoded c payload)
-      → ceiling_of (decode_outcome c l p soft x).answer ≡ sum_of soft
-  ceiling_at_the_sum payload e t allows =
-      let top : ℤ = ceiling_of (decode_outcome c l p soft x).answer in
-      le_z_antisym top (sum_of soft) ceiling_not_above
-      (subst (λ (z : ℤ). T (le_z z top)) (allowed_at_sum (allows_taken allows)) (no_code_word_above c l p soft x a payload e t))
-
 -- ---- soft values that each agree with the bit of a payload's word
 module _ (c : Code) (l : ℕ) (soft : List ℤ) (whole : length (frozen c) ≡ size c) {payload : List ℕ} (t : Bits payload) (agrees : Each Favours soft (encoded c payload)) where
   abbrev y : List ℤ
@@ -96,7 +85,7 @@ module _ (c : Code) (l : ℕ) (soft : List ℤ) (whole : length (frozen c) ≡ s
   not_above : (v : List ℕ) → AtMostSum soft (s v)
   not_above v = score_has (AtMostSum soft) y (none_above_sum y) (code_transform c) (size c) v
 
-  prefix_score : (i : ℕ) → i ≤ size c → s (take i u) ≡ sum_of soft
+  pub prefix_score : (i : ℕ) → i ≤ size c → s (take i u) ≡ sum_of soft
   prefix_score i h = le_z_antisym (s (take i u)) (sum_of soft) (not_above (take i u)) (not_below i h)
 
   -- and no other prefix does: one of the same length that scores as high has a completion with the same word, so it begins the same input
@@ -115,34 +104,3 @@ module _ (c : Code) (l : ℕ) (soft : List ℤ) (whole : length (frozen c) ≡ s
       (length_transformed c.arikan c.m (v ++ r) long ∙ sym (length_transformed c.arikan c.m u long_sent)) reaches in
       let same_input : v ++ r ≡ u = transform_injective c.arikan c.m (v ++ r) u bits (bits_input c t) long long_sent same_word in
       sym (take_at v r i p.long) ∙ ap (take i) same_input
-
--- ---- the theorems
-module _ (c : Code) (l : ℕ) (soft : List ℤ) (x : Lent) {payload : List ℕ} (t : Bits payload) (agrees : Each Favours soft (encoded c payload)) where
-  -- At every stop position the first row is the payload's row as it is known there.
-  pub first_row_at_stop : (p : ℕ) → AcceptedCall c l p soft x → first_row (size c) (decode_outcome c l p soft x) ≡ known_at c p (sent_row c soft payload)
-  first_row_at_stop p a =
-      let u : List ℕ = input_for c payload in
-      let s : List ℕ → ℤ = score_of (code_transform c) c (taken soft) l in
-      let whole : length (frozen c) ≡ size c = flags c l p soft x a in
-      let inside : p ≤ size c = stop_inside c l p soft x a in
-      let leads : Leads s (take p u) (live (code_transform c) c (taken soft) l p)
-      = sole_leads s (children c) l (some_list c l p soft x a) (record { long = refl; bits = nil }) (children_prefix c)
-      (λ i h. input_follows c t i (omega (arith, whole))) (sent_is_sole c l soft whole t agrees) p inside in
-      let f = first_of_call c l p soft x a in
-      let long : length (take p u) ≡ p = length-take-le p u (omega (arith, length_input c t, whole)) in
-      f.is
-      ∙ ap (row_of (code_transform c) c (taken soft) l) (leads_same s f.ahead_of leads)
-      ∙ ap₂ (λ (k : ℕ) (z : ℤ). let v : List ℕ = take p u ++ replicate (size c - k) 0 in record { input = v; word = code_transform c v; score = z })
-      long (prefix_score c l soft whole t agrees p inside)
-
-  -- At stop n it is the payload's row, whatever the list size and the lent memory are.
-  pub first_row_is_sent : AcceptedCall c l (size c) soft x
-      → first_row (size c) (decode_outcome c l (size c) soft x) ≡ record { input = input_for c payload; word = encoded c payload; score = pos (magnitude (taken soft)) }
-  unfolding encoded
-  first_row_is_sent a =
-      let u : List ℕ = input_for c payload in
-      let long : length u ≡ size c = length_input c t ∙ flags c l (size c) soft x a in
-      let none_left : size c - size c ≡ 0 = omega arith in
-      first_row_at_stop (size c) a
-      ∙ ap (λ (v : List ℕ). record { input = v; word = code_transform c v; score = sum_of soft })
-      (ap₂ (λ (v : List ℕ) (k : ℕ). v ++ replicate k 0) (take_all (size c) u (omega (arith, long))) none_left ∙ append-nil u)

@@ -12,7 +12,8 @@ use Rattle.spec.specs.Outcome.{Lent, decode_outcome}
 use Rattle.laws.specs.DecodeCall.{AcceptedCall}
 use Rattle.search.specs.ListSearch.{In}
 use Rattle.search.specs.FirstRow.{first_row}
-use Rattle.search.specs.Ceiling.{ceiling_of, CodeRow, no_code_word_above, first_row_in_code}
+use Rattle.search.specs.Ceiling.{ceiling_of, CodeRow, no_code_word_above}
+use Rattle.search.proofs.Ceiling.{first_row_in_code}
 use Rattle.words_above.specs.ListedWords.{listed, listed_is_code_word, code_word_is_listed, none_listed}
 
 -- an accepted decoder call at any stop position

@@ -1,0 +1,5 @@
+pub mod FirstRow
+pub mod Ceiling
+pub mod ListSizes
+pub mod CeilingExamples
+pub mod CleanBlock
