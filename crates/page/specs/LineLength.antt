@@ -1,20 +1,19 @@
--- Every line of a page has 43 columns and a line feed behind them: the numbers fit into their columns, whatever the bytes of the input are,
--- and a column shows a space or a visible character.
+-- Lines of 43 columns, each a space or a visible character, with a line feed behind them: that the line of a refusal and the last line are
+-- such lines, and that what is read of bytes has numbers that fit into their columns.
 use Rattle.std.specs.Prelude.{◌≡◌, refl, Bool, true, false, cond, List, [], ◌∷◌, ◌++◌, ℕ, zero, suc, ◌+◌, ◌-◌, ◌*◌, ◌/◌, ◌%◌, ◌≤◌, ◌<◌, ltb, length, take, drop, ℤ, pos, negsuc, ◌-ℤ◌}
-use Rattle.std.proofs.Common.{sym, subst, append_assoc, append-nil, arith, ltb-true, length-append}
+use Rattle.std.proofs.Common.{sym, subst, append-nil, arith, ltb-true, length-append}
 use Rattle.std.proofs.lemmas.List.{length-replicate}
 use Rattle.spec.specs.Faults.{Fault, fault, first, outside, some}
-use Rattle.spec.specs.ResultRecord.{first_score, rising, result_end, ResultAnswer, result_says, refused_result, operator_faults, operator_refusal}
+use Rattle.spec.specs.ResultRecord.{rising, result_end, ResultAnswer, result_says, refused_result, operator_faults, operator_refusal}
 use Rattle.laws.specs.FirstFault.{not_either, inside_of}
 use Rattle.laws.specs.ListCost.{All, none, more, all_take, all_drop, all_append}
-use Rattle.result_round_trip.specs.FourBytes.{Wide, Byte, first_wide}
+use Rattle.result_round_trip.specs.FourBytes.{Wide, Byte}
 use Rattle.result_round_trip.specs.OneForm.{read_fits}
 use Rattle.text.specs.Decimal.{digits, decimal, signed_decimal, decimal_32, decimal_length}
 use Rattle.text.specs.Words.{refused_word, space, line_feed}
 use Rattle.columns.specs.Columns.{spaces, right, left, length_right, length_left}
-use Rattle.page.specs.Lines.{lead, counts, result_line, refused_line, last_line}
-use Rattle.page.specs.Lead.{score_short, lead_short}
-use Rattle.page.specs.Page.{record_in, operator_says, Entry, entry, answered, Shift, stopped, another, at_end, shift_from, entry_lines, row_sum, closing, page_of, page}
+use Rattle.page.specs.Lines.{lead, counts, refused_line, last_line}
+use Rattle.page.specs.Page.{record_in, operator_says, Entry, entry, answered, Shift, stopped, another, at_end, shift_from, row_sum}
 use Rattle.page.specs.Heard.{refused_number, frame_is, scores_are, few_rows, falling}
 
 -- ---- columns that show something: a space or a visible character of ASCII
@@ -34,7 +33,7 @@ spaces_shown : (k : ℕ) → All Shown (spaces k)
 spaces_shown zero = none
 spaces_shown (suc k) = more {x = 32} (omega arith, omega arith) (spaces_shown k)
 
-right_shown : (w : ℕ) {xs : List ℕ} → All Shown xs → All Shown (right w xs)
+pub right_shown : (w : ℕ) {xs : List ℕ} → All Shown xs → All Shown (right w xs)
 unfolding right
 right_shown w {xs} a = all_append (spaces_shown (w - length xs)) a
 
@@ -54,20 +53,20 @@ decimal_shown n = digits_shown (suc n) n
 minus_shown : {xs : List ℕ} → All Shown xs → All Shown (45 ∷ xs)
 minus_shown a = more {x = 45} (omega arith, omega arith) a
 
-signed_shown : (z : ℤ) → All Shown (signed_decimal z)
+pub signed_shown : (z : ℤ) → All Shown (signed_decimal z)
 signed_shown (pos n) = decimal_shown n
 signed_shown (negsuc n) = minus_shown (decimal_shown (suc n))
 
-lead_shown : (ys : List ℤ) → All Shown (lead ys)
+pub lead_shown : (ys : List ℤ) → All Shown (lead ys)
 unfolding lead
 lead_shown [] = minus_shown none
 lead_shown (y ∷ []) = minus_shown none
 lead_shown (y ∷ z ∷ ys) = signed_shown (y -ℤ z)
 
-space_shown : {xs : List ℕ} → All Shown xs → All Shown (space ++ xs)
+pub space_shown : {xs : List ℕ} → All Shown xs → All Shown (space ++ xs)
 space_shown a = more {x = 32} (omega arith, omega arith) a
 
-counts_shown : (a b : ℕ) → All Shown (counts a b)
+pub counts_shown : (a b : ℕ) → All Shown (counts a b)
 counts_shown a b = all_append (all_append (right_shown 10 (decimal_shown a)) (space_shown none)) (right_shown 6 (decimal_shown b))
 
 -- ---- a line: 43 such columns and a line feed
@@ -77,7 +76,7 @@ pub record Line (line : List ℕ) : Type 0 where
   pub shown : All Shown columns
   pub is : line ≡ columns ++ line_feed
 
-counts_long : (a b : ℕ) → a < 4294967296 → b < 1000000 → length (counts a b) ≡ 17
+pub counts_long : (a b : ℕ) → a < 4294967296 → b < 1000000 → length (counts a b) ≡ 17
 counts_long a b h g =
     omega (
       arith,
@@ -114,32 +113,6 @@ pub record Small (e : Entry) : Type 0 where
   pub scores : All Wide e.scores
   pub falling : rising e.scores ≡ false
 
-pub result_line_lem : (e : Entry) → Small e → Line (result_line e.frame e.rows e.scores)
-unfolding result_line
-result_line_lem e s =
-    let a : List ℕ = counts e.frame e.rows in
-    let b : List ℕ = right 12 (signed_decimal (first_score e.scores)) in
-    let c : List ℕ = right 12 (lead e.scores) in
-    record {
-      columns = a ++ (space ++ b) ++ (space ++ c);
-      long =
-          omega (
-            arith,
-            length-append (a ++ (space ++ b)) (space ++ c),
-            length-append a (space ++ b),
-            length-append space b,
-            length-append space c,
-            counts_long e.frame e.rows s.frame (omega (arith, s.rows)),
-            length_right 12 (signed_decimal (first_score e.scores)) (score_short (first_score e.scores) (first_wide s.scores)),
-            length_right 12 (lead e.scores) (lead_short e.scores s.scores s.falling),
-          );
-      shown =
-          all_append
-          (all_append (counts_shown e.frame e.rows) (space_shown (right_shown 12 (signed_shown (first_score e.scores)))))
-          (space_shown (right_shown 12 (lead_shown e.scores)));
-      is = refl;
-    }
-
 -- ---- a refusal number has at most two digits
 number_of : Fault → ℕ
 number_of (fault k b) = k
@@ -158,10 +131,10 @@ refusal_below t scores = first_below (operator_faults t scores)
 
 -- ---- what is read of bytes
 -- small entries, not more than may come, and a refusal number of two digits
-record Fine (left : ℕ) (x : Shift) : Type 0 where
-  entries : All Small x.entries
-  few : length x.entries ≤ left
-  number : x.refusal < 100
+pub record Fine (left : ℕ) (x : Shift) : Type 0 where
+  pub entries : All Small x.entries
+  pub few : length x.entries ≤ left
+  pub number : x.refusal < 100
 
 stop_fine : (left k : ℕ) → k < 100 → Fine left (stopped k)
 stop_fine left k h = record { entries = none; few = omega arith; number = h }
@@ -185,7 +158,7 @@ end_fine : (left : ℕ) (s : List ℕ) (x : Shift) → Fine left x → Fine left
 end_fine left [] x fine = stop_fine left 0 (omega arith)
 end_fine left (b ∷ s) x fine = fine
 
-shift_fine : (left : ℕ) (s : List ℕ) → All Byte s → Fine left (shift_from left s)
+pub shift_fine : (left : ℕ) (s : List ℕ) → All Byte s → Fine left (shift_from left s)
 unfolding shift_from
 shift_fine zero s bytes = end_fine 0 s (stopped 23) (stop_fine 0 23 (omega arith))
 shift_fine (suc left) s bytes =
@@ -199,35 +172,10 @@ pub data InLines : List ℕ → Type 0 where
   no_line : InLines []
   a_line : (line behind : List ℕ) → Line line → InLines behind → InLines (line ++ behind)
 
-one_line : (line : List ℕ) → Line line → InLines line
+pub one_line : (line : List ℕ) → Line line → InLines line
 one_line line h = subst InLines (append-nil line) (a_line line [] h no_line)
 
-entries_in_lines : (es : List Entry) → All Small es → (u : List ℕ) → InLines u → InLines (entry_lines es ++ u)
-unfolding entry_lines
-entries_in_lines [] none u l = l
-entries_in_lines (e ∷ es) (more h all) u l =
-    let line : List ℕ = result_line e.frame e.rows e.scores in
-    subst InLines (sym (append_assoc line (entry_lines es) u))
-    (a_line line (entry_lines es ++ u) (result_line_lem e h) (entries_in_lines es all u l))
-
-closing_in_lines : (n k rows : ℕ) → n < 100 → k < 4294967296 → rows < 1000000 → InLines (closing n k rows)
-closing_in_lines zero k rows h i j = one_line (last_line k rows) (last_line_lem k rows i j)
-closing_in_lines (suc n) k rows h i j =
-    a_line (refused_line (suc n)) (last_line k rows) (refused_line_lem (suc n) (omega arith)) (one_line (last_line k rows) (last_line_lem k rows i j))
-
-rows_few : (es : List Entry) → All Small es → row_sum es ≤ 32 * length es
+pub rows_few : (es : List Entry) → All Small es → row_sum es ≤ 32 * length es
 unfolding row_sum
 rows_few [] none = omega arith
 rows_few (e ∷ es) (more h all) = omega (arith, h.rows, rows_few es all)
-
--- 43 COLUMNS. The page of any input of bytes is such lines, one behind the other.
-pub page_in_lines : (s : List ℕ) → All Byte s → InLines (page s)
-unfolding page page_of
-page_in_lines s bytes =
-    let x : Shift = shift_from 1000 s in
-    let n : ℕ = length x.entries in
-    let sum : ℕ = row_sum x.entries in
-    let fine = shift_fine 1000 s bytes in
-    let few : sum < 1000000 = omega (arith, fine.few, rows_few x.entries fine.entries) in
-    entries_in_lines x.entries fine.entries (closing x.refusal n sum)
-    (closing_in_lines x.refusal n sum fine.number (omega (arith, fine.few)) few)

@@ -1,9 +1,10 @@
--- The operator's page says nothing of packed bits. No code is in scope: the theorems are over the definition of the page.
+-- Inputs whose records differ only in packed bits: the same is read of both. No code is in scope: the theorems are over the definition of
+-- what is read of an input.
 use Rattle.std.specs.Prelude.{◌≡◌, refl, List, [], ◌∷◌, ℕ, zero, suc, length, drop, replicate, pos}
-use Rattle.std.proofs.Common.{sym, ap, ap₂, ◌∙◌, suc-ne-zero, arith, length-take}
+use Rattle.std.proofs.Common.{sym, ap₂, ◌∙◌, suc-ne-zero, arith, length-take}
 use Rattle.spec.specs.ResultRecord.{result_end, OperatorReading, OnlyPackedBitsDiffer}
 use Rattle.result_round_trip.specs.Operator.{operator_sees_no_bits}
-use Rattle.page.specs.Page.{record_in, operator_says, heard, Shift, stopped, another, at_end, shift_from, page_of, page}
+use Rattle.page.specs.Page.{record_in, operator_says, heard, Shift, stopped, another, at_end, shift_from}
 
 -- two inputs whose records differ only in packed bits: each record of the one and the record of the other at its place
 pub data PackedBitsDiffer : List ℕ → List ℕ → Type 0 where
@@ -23,7 +24,7 @@ same_end (b ∷ s) [] d end more = absurd (suc-ne-zero (length s) (some_record (
 same_end (b ∷ s) (b' ∷ s') d end more = refl
 
 -- the same is read of both
-same_shift : (left : ℕ) (s s' : List ℕ) → PackedBitsDiffer s s' → shift_from left s ≡ shift_from left s'
+pub same_shift : (left : ℕ) (s s' : List ℕ) → PackedBitsDiffer s s' → shift_from left s ≡ shift_from left s'
 unfolding shift_from
 same_shift left [] [] no_more = refl
 same_shift zero s s' (a_record d more) = same_end s s' d (stopped 0) (stopped 23)
@@ -32,8 +33,3 @@ same_shift (suc left) s s' (a_record d more) =
     let later = same_shift left (drop (result_end s) s) (drop (result_end s') s') more in
     ap₂ (λ (o : OperatorReading) (x : Shift). at_end s (stopped 0) (heard o stopped (λ e. another e x))) says later
     ∙ same_end s s' d (stopped 0) (heard (operator_says (record_in s')) stopped (λ e. another e (shift_from left (drop (result_end s') s'))))
-
--- ---- NON-INTERFERENCE. Two inputs whose records differ only in packed bits have the same page, refusals included.
-pub page_sees_no_bits : (s s' : List ℕ) → PackedBitsDiffer s s' → page s ≡ page s'
-unfolding page
-page_sees_no_bits s s' d = ap page_of (same_shift 1000 s s' d)

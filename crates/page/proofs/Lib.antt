@@ -1,0 +1,4 @@
+pub mod LineLength
+pub mod PackedBits
+pub mod WrittenPage
+pub mod SameEntries
