@@ -1,8 +1,9 @@
 -- From the decoder to the customer: 02, wish 11. What a decoder call gives may be handed to the result writer as it is, for every code, list
 -- size, stop position, soft values and lent memory, and what the writer makes of it tells the customer exactly the rows and the ceiling of the
--- decoder on paper. No code is in scope: the theorems are over the definitions.
+-- decoder on paper. Here are the words, that the writer's conditions hold, and that just this is handed over; that it is written and read back
+-- stands in proofs/DecodedResult.antt. No code is in scope: the theorems are over the definitions.
 use Rattle.std.specs.Prelude.{◌≡◌, ℕ, ◌-◌, ◌*◌, ◌^◌, ◌≤◌, ◌<◌, take, replicate, ℤ, pos, negsuc, nat_abs}
-use Rattle.std.proofs.Common.{sym, ap, ◌∙◌, arith, pow_pos}
+use Rattle.std.proofs.Common.{arith, pow_pos}
 use Rattle.std.proofs.Math.Path.{ap₂}
 use mathlib.Core.List.{List, ◌++◌, map}
 use Rattle.std.proofs.Math.ListN.{length}
@@ -13,20 +14,19 @@ use Rattle.spec.specs.Score.{correlation, taken}
 use Rattle.spec.specs.Decoder.{Row, rows, ceiling}
 use Rattle.spec.specs.Refusals.{Room, run_faults, table_faults, decode_faults}
 use Rattle.spec.specs.RowCount.{row_count}
-use Rattle.spec.specs.Outcome.{padded, Answer, decoded, refused_by, Lent, room_of, Decoding, concat, decode_refusal, decode_served, decode_outcome}
-use Rattle.spec.specs.ResultRecord.{result_says, customer_reading, customer_outcome}
-use Rattle.spec.specs.ResultWriter.{Result, result_of, written_result, write_result_refusal}
+use Rattle.spec.specs.Outcome.{Answer, decoded, refused_by, Decoding, concat, decode_refusal, decode_served}
+use Rattle.spec.specs.ResultWriter.{Result, result_of}
 use Rattle.laws.specs.FirstFault.{First, later, of_first, none_before}
 use Rattle.laws.specs.Taken.{magnitude_range}
 use Rattle.laws.specs.ListCost.{all_under}
 use Rattle.laws.specs.EveryScore.{size_correlation, rows_have, ceiling_has}
 use Rattle.laws.specs.Accepted.{Accepted, accepted_of, code_numbers, size_small}
-use Rattle.laws.specs.DecodeCall.{AcceptedCall, accepted_is, list_in_range, stop_in_range, map_right, soft_long, rows_at_most}
-use Rattle.laws.specs.ResultWriting.{WritableResult, no_result_fault, result_accepted}
+use Rattle.laws.specs.DecodeCall.{list_in_range, stop_in_range, map_right, soft_long, rows_at_most}
+use Rattle.laws.specs.ResultWriting.{WritableResult}
 use Rattle.search.specs.Ceiling.{ceiling_of}
 use Rattle.search.specs.RowsByRank.{row_scores_fall, ceiling_not_below, length_inputs, bits_inputs}
 use Rattle.result_round_trip.specs.FourBytes.{Wide}
-use Rattle.result_round_trip.specs.ReadBack.{Fits, customer_reads_back, written_at_most}
+use Rattle.result_round_trip.specs.ReadBack.{Fits}
 
 -- ---- the statements' words
 -- the rows that the decoder on paper gives for a call's arguments
@@ -106,19 +106,6 @@ module _ (c : Code) (l p : ℕ) (soft : List ℤ) (r : Room) (e : 0 ≡ decode_r
     not_below = ceiling_not_below (code_transform c) c (taken soft) l p some_rows;
   }
 
-  -- So the writer accepts it with room for its record, and 4,235 bytes are always enough.
-  pub decoded_written : (frame room : ℕ) → length (written_result (decoded_result c l p soft frame)) ≤ room
-      → 0 ≡ write_result_refusal (decoded_result c l p soft frame) room
-  decoded_written frame room h =
-      let x : Result = decoded_result c l p soft frame in
-      result_accepted x room (no_result_fault x (decoded_writable frame)) h
-
-  pub decoded_written_always : (frame room : ℕ) → 4235 ≤ room → 0 ≡ write_result_refusal (decoded_result c l p soft frame) room
-  decoded_written_always frame room h =
-      let x : Result = decoded_result c l p soft frame in
-      let k : ℕ = length (written_result x) in
-      decoded_written frame room (omega (arith, h, written_at_most x k (decoded_written frame k (omega arith))))
-
   -- Its numbers have 32 bits, where the frame number has.
   pub decoded_fits : (frame : ℕ) → frame < 4294967296 → Fits (decoded_result c l p soft frame)
   decoded_fits frame h = record {
@@ -127,19 +114,7 @@ module _ (c : Code) (l p : ℕ) (soft : List ℤ) (r : Room) (e : 0 ≡ decode_r
     scores = all_under (λ (x : Row). x.score) Wide (rows_have Wide (taken soft) (correlations_wide passed) (code_transform c) c l p);
   }
 
-  -- From what was written the customer is told m, the frame number, and the row count, ceiling, scores and input rows of the decoder on paper.
-  pub decoded_read_back : (frame : ℕ) → frame < 4294967296 → (scores : List ℤ) (inputs : List ℕ)
-      → length (paper_rows c l p soft) ≤ length scores → length (paper_rows c l p soft) * size c ≤ length inputs
-      → customer_outcome (written_result (decoded_result c l p soft frame)) scores inputs
-      ≡ customer_reading
-      (result_says c.m (length (paper_rows c l p soft)) frame (ceiling (code_transform c) c (taken soft) l p))
-      (padded (pos 0) (length scores) (scores_of (paper_rows c l p soft)))
-      (padded 0 (length inputs) (inputs_of (paper_rows c l p soft)))
-  decoded_read_back frame h scores inputs hs hi =
-      let written : 0 ≡ write_result_refusal (decoded_result c l p soft frame) 4235 = decoded_written_always frame 4235 (omega arith) in
-      customer_reads_back (decoded_result c l p soft frame) (decoded_fits frame h) 4235 written scores inputs hs hi
-
-  -- These scores and input rows lie at the front of what the call leaves, so what a host hands over of it is this result.
+  -- The scores and input rows of the decoder on paper lie at the front of what the call leaves, so what a host hands over of it is this result.
   pub scores_at_front : take (length (paper_rows c l p soft)) (decode_served c l p soft r).left.scores ≡ scores_of (paper_rows c l p soft)
   unfolding decode_served
   scores_at_front =
@@ -156,15 +131,3 @@ module _ (c : Code) (l p : ℕ) (soft : List ℤ) (r : Room) (e : 0 ≡ decode_r
   handed_over_lem frame =
       ap₂ (λ (ys : List ℤ) (u : List ℕ). result_of c.m (length rs) frame (ceiling (code_transform c) c (taken soft) l p) ys u)
       scores_at_front inputs_at_front
-
--- ---- the outcome of an accepted call
-module _ (c : Code) (l p : ℕ) (soft : List ℤ) (x : Lent) (a : AcceptedCall c l p soft x) (frame : ℕ) where
-  -- What a host hands over of it is the result of the decoder on paper, with any frame number,
-  pub outcome_handed_over : handed_over c.m frame (decode_outcome c l p soft x) ≡ decoded_result c l p soft frame
-  outcome_handed_over = ap (handed_over c.m frame) (accepted_is c l p soft x a) ∙ handed_over_lem c l p soft (room_of x) (sym a) frame
-
-  -- and the writer accepts it as it is.
-  pub outcome_written : (room : ℕ) → 4235 ≤ room → 0 ≡ write_result_refusal (handed_over c.m frame (decode_outcome c l p soft x)) room
-  outcome_written room h =
-      decoded_written_always c l p soft (room_of x) (sym a) frame room h
-      ∙ sym (ap (λ (y : Result). write_result_refusal y room) outcome_handed_over)

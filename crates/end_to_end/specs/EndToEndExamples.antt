@@ -10,12 +10,12 @@ use Rattle.spec.specs.Faults.{first, some}
 use Rattle.spec.specs.Refusals.{past_end}
 use Rattle.spec.specs.Outcome.{encode_refusal, encode_outcome, decode_refusal, decode_served, decode_outcome}
 use Rattle.spec.specs.Examples.{word4, frozen123}
-use Rattle.laws.specs.Agreement.{for_0, for_1, Allows, neutral, favoured, none, more}
+use Rattle.laws.specs.Agreement.{for_0, Allows, neutral, favoured, none, more}
 use Rattle.search.specs.FirstRow.{first_row}
 use Rattle.search.specs.FirstRowExamples.{row}
 use Rattle.search.specs.Ceiling.{ceiling_of}
 use Rattle.search.specs.CeilingExamples.{lent4}
-use Rattle.end_to_end.specs.EndToEnd.{Received, ReceivedIf, sent_is_received}
+use Rattle.end_to_end.specs.EndToEnd.{Received, ReceivedIf}
 
 -- the first soft value is z and the others are 1
 abbrev pub softly : ℤ → List ℤ
@@ -39,12 +39,7 @@ by_first_value = refl
 abbrev pub OneReceived : ℤ → Type 0
 OneReceived z = Received frozen123 (1 ∷ []) (replicate 4 9) (softly z) (decode_outcome frozen123 1 4 (softly z) lent4) (replicate 1 9)
 
--- At −2,048, as `sent_is_received` says.
-pub one_received : OneReceived (negsuc 2047)
-unfolding lent4 frozen123 bits_of unpacked transform frozen frozen_bit input_for encoded first some past_end encode_refusal encode_outcome decode_refusal
-one_received = sent_is_received frozen123 (1 ∷ []) 1 (softly (negsuc 2047)) lent4 (replicate 4 9) (replicate 1 9) refl (more for_1 (more for_0 (more for_0 (more for_0 none)))) refl (omega arith)
-
--- At 0 it is not, so the theorem does not hold where soft values may also be 0.
+-- At 0 it is not, so `sent_is_received` does not hold where soft values may also be 0.
 pub zero_decides_nothing : ReceivedIf Allows → ⊥
 unfolding lent4 frozen123 bits_of unpacked transform frozen frozen_bit input_for encoded largest score children live_by rows first some past_end encode_refusal encode_outcome decode_refusal decode_served decode_outcome
 zero_decides_nothing claim =

@@ -1,3 +1,3 @@
 #![tactic(auto)]
 
-// The theorems stand in specs/: nothing runs here.
+// The theorems stand in specs/ and proofs/: nothing runs here.

@@ -19,7 +19,7 @@ use Rattle.laws.specs.ListCost.{All, none, more, all_map, all_under, all_at}
 use Rattle.search.specs.ListSearch.{In, all_in}
 use Rattle.search.specs.CodeInputs.{Input}
 use Rattle.search.specs.Ceiling.{row_of_payload, CodeRow}
-use Rattle.words_above.specs.ListsInOrder.{all_kept, in_kept, in_map, place_of, Ordered, ordered_kept, ordered_at, ordered_map}
+use Rattle.words_above.specs.ListsInOrder.{all_kept, in_kept, in_map, Ordered, ordered_kept, ordered_at, ordered_map}
 use Rattle.words_above.specs.ListedInputs.{Before, never_before_itself, listed_inputs, input_listed, listed_inputs_rise}
 
 -- the rows at a mark or above, for the soft values as they are taken
@@ -113,17 +113,6 @@ module _ {c : Code} (a : Accepted c) (soft : List ℤ) (mark : ℤ) where
     pub inside : place < length (listed c soft mark)
     pub is : row_at c soft mark d place ≡ row_of_payload c soft payload
     pub alone : (j : ℕ) → j < length (listed c soft mark) → (row_at c soft mark d j).word ≡ encoded c payload → j ≡ place
-
-  -- So every code word at the mark or above is listed exactly once.
-  pub listed_exactly_once : (d : Row) (payload : List ℕ) → Bits payload → T (le_z mark (correlation (taken soft) (encoded c payload))) → Once d payload
-  listed_exactly_once d payload t h =
-      let p = place_of d (code_word_is_listed c soft mark payload t h) in
-      record {
-        place = p.at;
-        inside = p.inside;
-        is = p.is;
-        alone = λ j k e. listed_once d j p.at k p.inside (e ∙ sym (ap (λ (r : Row). r.word) p.is));
-      }
 
 -- What is listed at a mark is listed at every lower one.
 pub higher_mark_fewer : (c : Code) (soft : List ℤ) (low high : ℤ) → T (le_z low high) → (r : Row) → In r (listed c soft high) → In r (listed c soft low)

@@ -1,0 +1,3 @@
+pub mod EndToEndExamples
+pub mod SampledBlock
+pub mod DecodedResult
