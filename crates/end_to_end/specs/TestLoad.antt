@@ -19,7 +19,8 @@ use Rattle.laws.specs.LoadCall.{length_payload, bits_payload, bits_word, drawn_l
 use Rattle.search.specs.Ceiling.{ceiling_of}
 use Rattle.search.specs.CleanBlock.{no_score_above}
 use Rattle.search.proofs.CleanBlock.{ceiling_at_the_sum}
-use Rattle.job_round_trip.specs.DecodedAlike.{decoded_from, decoded_alike}
+use Rattle.job_round_trip.specs.DecodedAlike.{decoded_from}
+use Rattle.job_round_trip.proofs.DecodedAlike.{decoded_alike}
 
 module _ (s : ℕ) (c : Code) where
   -- the draws of the soft values

@@ -3,7 +3,7 @@
 use Rattle.std.specs.Prelude.{◌≡◌, refl, List, [], ◌∷◌, ℕ, zero, suc, length, drop, replicate, pos}
 use Rattle.std.proofs.Common.{sym, ap₂, ◌∙◌, suc-ne-zero, arith, length-take}
 use Rattle.spec.specs.ResultRecord.{result_end, OperatorReading, OnlyPackedBitsDiffer}
-use Rattle.result_round_trip.specs.Operator.{operator_sees_no_bits}
+use Rattle.result_round_trip.proofs.Operator.{operator_sees_no_bits}
 use Rattle.page.specs.Page.{record_in, operator_says, heard, Shift, stopped, another, at_end, shift_from}
 
 -- two inputs whose records differ only in packed bits: each record of the one and the record of the other at its place

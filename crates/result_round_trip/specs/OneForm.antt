@@ -1,6 +1,5 @@
--- Each result has one record: one of bytes that the customer reader accepts is what the writer writes of what was read, so two from which
--- the same is read are the same bytes, and two results with the same record are the same. No code is in scope: the theorems are over the
--- definitions.
+-- Each result has one record: one of bytes that the operator reader accepts, and in which no packed bit is set past n, is what the writer
+-- writes of what was read; and two results with the same record are the same. No code is in scope: the theorems are over the definitions.
 use Rattle.std.specs.Prelude.{◌≡◌, refl, false, ◌&&◌, eqb, length, ℤ}
 use Rattle.std.proofs.Math.Path.{sym, ap, ap₂}
 use Rattle.std.proofs.Common.{◌∙◌, true≢false, arith, length-drop}
@@ -13,12 +12,12 @@ use Rattle.spec.specs.Code.{map_bytes}
 use Rattle.spec.specs.Record.{four_at, signed32, if_present, fields, exponent, positions}
 use Rattle.spec.specs.RecordOf.{Field, low_first, field_bit, field_bytes, thirty_two_bits}
 use Rattle.spec.specs.JobWriter.{unless}
-use Rattle.spec.specs.ResultRecord.{first_score, some_past, ceiling_at, scores_at, row_count, packed_at, result_scores, result_ceiling, packed_part, result_inputs, customer_refusal}
+use Rattle.spec.specs.ResultRecord.{first_score, some_past, ceiling_at, scores_at, row_count, packed_at, result_scores, result_ceiling, packed_part, result_inputs}
 use Rattle.spec.specs.ResultWriter.{Result, packed_rows, score_bytes, frame_field, ceiling_field, written_result, write_result_refusal}
 use Rattle.laws.specs.ListCost.{All, all_drop}
 use Rattle.laws.specs.PackedRows.{length_rows}
-use Rattle.laws.specs.ResultReading.{length_scores_from, OperatorAccepts, CustomerAccepts, customer_accepts}
-use Rattle.laws.specs.ResultWriting.{WritableResult, no_result_fault, result_accepted}
+use Rattle.laws.specs.ResultReading.{length_scores_from, OperatorAccepts}
+use Rattle.laws.specs.ResultWriting.{WritableResult}
 use Rattle.laws.specs.WrittenForm.{left_out, stands}
 use Rattle.result_round_trip.specs.FourBytes.{Wide, Byte, four_bits_back, signed_wide, same_bits, first_wide, four_small, byte_first, four_form, scores_wide, scores_form}
 use Rattle.result_round_trip.specs.ScoreOrder.{not_above_itself, not_below_itself, above_not_below}
@@ -108,7 +107,7 @@ module _ (s : List ℕ) (a : All Byte s) {scores : ℕ} (o : OperatorAccepts s s
       by_bit (suc (suc b)) e q = absurd (omega arith)
 
   -- where also no packed bit is set past n, all of it is written again
-  form : some_past (positions s) (row_count s) (packed_part s) ≡ false → written_result (read_from s) ≡ s
+  pub form : some_past (positions s) (row_count s) (packed_part s) ≡ false → written_result (read_from s) ≡ s
   unfolding written_result
   form clean =
       let w = o.shaped in
@@ -131,7 +130,7 @@ module _ (s : List ℕ) (a : All Byte s) {scores : ℕ} (o : OperatorAccepts s s
       (byte_first s 1 (omega (arith, w.begun)) ∙ ap (λ (l : List ℕ). exponent s ∷ l) (byte_first s 2 (omega (arith, w.begun)))) in
       ap₂ (λ (b : ℕ) (l : List ℕ). b ∷ exponent s ∷ row_count s ∷ l) first_byte shown ∙ sym begun
 
-  writable : WritableResult (read_from s)
+  pub writable : WritableResult (read_from s)
   writable =
       let w = o.shaped in
       record {
@@ -146,27 +145,7 @@ module _ (s : List ℕ) (a : All Byte s) {scores : ℕ} (o : OperatorAccepts s s
         not_below = ceiling_not_below;
       }
 
--- ---- the theorems
-module _ (s : List ℕ) (a : All Byte s) (scores inputs : ℕ) (e : 0 ≡ customer_refusal s scores inputs) where
-  abbrev ok : CustomerAccepts s scores inputs
-  ok = customer_accepts s scores inputs e
-
-  -- a record of bytes that the customer reader accepts is what the writer writes of what is read from it
-  pub accepted_is_written : written_result (read_from s) ≡ s
-  accepted_is_written = form s a ok.as_operator ok.clean
-
-  -- the writer accepts that, in an output as long as the record
-  pub accepted_is_accepted : 0 ≡ write_result_refusal (read_from s) (length s)
-  accepted_is_accepted =
-      result_accepted (read_from s) (length s) (no_result_fault (read_from s) (writable s a ok.as_operator)) (omega (arith, ap length accepted_is_written))
-
--- two records of bytes that the customer reader accepts, and from which the same is read, are the same bytes
-pub one_form : (s s' : List ℕ) → All Byte s → All Byte s' → (scores scores' inputs inputs' : ℕ) → 0 ≡ customer_refusal s scores inputs
-    → 0 ≡ customer_refusal s' scores' inputs' → read_from s ≡ read_from s' → s ≡ s'
-one_form s s' a a' scores scores' inputs inputs' e e' q =
-    sym (accepted_is_written s a scores inputs e) ∙ ap written_result q ∙ accepted_is_written s' a' scores' inputs' e'
-
--- two results that the writer accepts, and of which it writes the same record, are the same result
+-- ---- two results that the writer accepts, and of which it writes the same record, are the same result
 pub one_record : (r r' : Result) → Fits r → Fits r' → (lent lent' : ℕ) → 0 ≡ write_result_refusal r lent → 0 ≡ write_result_refusal r' lent'
     → written_result r ≡ written_result r' → r ≡ r'
 one_record r r' f f' lent lent' e e' q = sym (result_back r f lent e) ∙ ap read_from q ∙ result_back r' f' lent' e'

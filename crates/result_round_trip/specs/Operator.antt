@@ -1,4 +1,4 @@
--- What the operator reader is told of the packed bits: nothing. And the two readers agree. No code is in scope: the theorems are over the
+-- What the operator reader goes by, and what it makes of that. And the two readers agree. No code is in scope: the theorems are over the
 -- definitions.
 use Rattle.std.specs.Prelude.{◌≡◌, not, ◌&&◌, length, take, replicate, ltb, eqb, ℤ, pos}
 use Rattle.std.proofs.Math.Path.{refl, sym, ap₂}
@@ -11,12 +11,12 @@ use Rattle.spec.specs.Faults.{Fault, fault, first, settled, outside}
 use Rattle.spec.specs.Refusals.{room_fault}
 use Rattle.spec.specs.Record.{byte_at, four_at, signed32, if_present, fields, exponent}
 use Rattle.spec.specs.Outcome.{padded}
-use Rattle.spec.specs.ResultRecord.{scores_from, first_score, rising, ceiling_at, scores_at, row_count, packed_at, result_frame, result_scores, result_ceiling, operator_faults, customer_faults, result_says, refused_result, said_by, OperatorReading, operator_reading, operator_refusal, operator_served, operator_outcome, CustomerReading, customer_refusal, customer_served, customer_outcome, OnlyPackedBitsDiffer}
+use Rattle.spec.specs.ResultRecord.{scores_from, first_score, rising, ceiling_at, scores_at, row_count, packed_at, result_frame, result_scores, result_ceiling, operator_faults, customer_faults, result_says, refused_result, OperatorReading, operator_reading, operator_refusal, operator_served, operator_outcome, CustomerReading, customer_refusal, customer_served, customer_outcome}
 use Rattle.laws.specs.FirstFault.{of_first, is_first, Numbered, end, next, none_before, first_before, first_after}
-use Rattle.laws.specs.ResultReading.{length_scores_from, customer_last, operator_served_lem, customer_served_lem, same_length_same_operator}
+use Rattle.laws.specs.ResultReading.{length_scores_from, customer_last, operator_served_lem, customer_served_lem}
 
 -- ---- all that the operator reader goes by
-record Seen : Type 0 where
+pub record Seen : Type 0 where
   long : ℕ
   map : ℕ
   m : ℕ
@@ -44,50 +44,50 @@ same_seen i j k l n p q = rw (i, j, k, l, n, p, q)
 
 -- two records of equal length give it the same to go by where all bytes before the packed rows are the same
 module _ (s s' : List ℕ) (long : length s ≡ length s') (before : (i : ℕ) → i < packed_at s → byte_at s i ≡ byte_at s' i) where
-  four_same : (at : ℕ) → at + 3 < packed_at s → four_at s at ≡ four_at s' at
-  four_same at h =
-      let a : byte_at s at ≡ byte_at s' at = before at (omega arith) in
-      let b : byte_at s (at + 1) ≡ byte_at s' (at + 1) = before (at + 1) (omega arith) in
-      let e : byte_at s (at + 2) ≡ byte_at s' (at + 2) = before (at + 2) (omega arith) in
-      let f : byte_at s (at + 2 + 1) ≡ byte_at s' (at + 2 + 1) = before (at + 2 + 1) (omega arith) in
-      omega arith
-
-  scores_same : (n at : ℕ) → at + 4 * n ≤ packed_at s → scores_from s at n ≡ scores_from s' at n
+  pub seen_same : seen s ≡ seen s'
   unfolding scores_from
-  scores_same zero at h = refl
-  scores_same (suc n) at h = ap₂ ◌∷◌ (ap signed32 (four_same at (omega arith))) (scores_same n (at + 4) (omega arith))
-
-  map_same : fields s ≡ fields s'
-  map_same = before 0 (omega arith)
-
-  rows_same : row_count s ≡ row_count s'
-  rows_same = before 2 (omega arith)
-
-  frame_same : result_frame s ≡ result_frame s'
-  frame_same = by_bit (fields s % 2) refl ∙ ap (λ (f : ℕ). if_present (f % 2) (four_at s' 3) 0) map_same
-    where
-      by_bit : (b : ℕ) → fields s % 2 ≡ b → if_present b (four_at s 3) 0 ≡ if_present b (four_at s' 3) 0
-      by_bit zero e = refl
-      by_bit (suc b) e = four_same 3 (omega arith)
-
-  listed_same : result_scores s ≡ result_scores s'
-  listed_same =
-      scores_same (row_count s) (scores_at (fields s)) (omega arith)
-      ∙ ap₂ (λ (f n : ℕ). scores_from s' (scores_at f) n) map_same rows_same
-
-  ceiling_same : result_ceiling s ≡ result_ceiling s'
-  ceiling_same =
-      by_bit (fields s / 2 % 2) refl
-      ∙ ap (λ (f : ℕ). if_present (f / 2 % 2) (signed32 (four_at s' (ceiling_at f))) (first_score (result_scores s'))) map_same
-    where
-      by_bit : (b : ℕ) → fields s / 2 % 2 ≡ b
-          → if_present b (signed32 (four_at s (ceiling_at (fields s)))) (first_score (result_scores s))
-          ≡ if_present b (signed32 (four_at s' (ceiling_at (fields s)))) (first_score (result_scores s'))
-      by_bit zero e = ap first_score listed_same
-      by_bit (suc b) e = ap signed32 (four_same (ceiling_at (fields s)) (omega arith))
-
-  seen_same : seen s ≡ seen s'
   seen_same = same_seen long map_same (before 1 (omega arith)) rows_same frame_same ceiling_same listed_same
+    where
+      four_same : (at : ℕ) → at + 3 < packed_at s → four_at s at ≡ four_at s' at
+      four_same at h =
+          let a : byte_at s at ≡ byte_at s' at = before at (omega arith) in
+          let b : byte_at s (at + 1) ≡ byte_at s' (at + 1) = before (at + 1) (omega arith) in
+          let e : byte_at s (at + 2) ≡ byte_at s' (at + 2) = before (at + 2) (omega arith) in
+          let f : byte_at s (at + 2 + 1) ≡ byte_at s' (at + 2 + 1) = before (at + 2 + 1) (omega arith) in
+          omega arith
+
+      scores_same : (n at : ℕ) → at + 4 * n ≤ packed_at s → scores_from s at n ≡ scores_from s' at n
+      scores_same zero at h = refl
+      scores_same (suc n) at h = ap₂ ◌∷◌ (ap signed32 (four_same at (omega arith))) (scores_same n (at + 4) (omega arith))
+
+      map_same : fields s ≡ fields s'
+      map_same = before 0 (omega arith)
+
+      rows_same : row_count s ≡ row_count s'
+      rows_same = before 2 (omega arith)
+
+      frame_same : result_frame s ≡ result_frame s'
+      frame_same = by_bit (fields s % 2) refl ∙ ap (λ (f : ℕ). if_present (f % 2) (four_at s' 3) 0) map_same
+        where
+          by_bit : (b : ℕ) → fields s % 2 ≡ b → if_present b (four_at s 3) 0 ≡ if_present b (four_at s' 3) 0
+          by_bit zero e = refl
+          by_bit (suc b) e = four_same 3 (omega arith)
+
+      listed_same : result_scores s ≡ result_scores s'
+      listed_same =
+          scores_same (row_count s) (scores_at (fields s)) (omega arith)
+          ∙ ap₂ (λ (f n : ℕ). scores_from s' (scores_at f) n) map_same rows_same
+
+      ceiling_same : result_ceiling s ≡ result_ceiling s'
+      ceiling_same =
+          by_bit (fields s / 2 % 2) refl
+          ∙ ap (λ (f : ℕ). if_present (f / 2 % 2) (signed32 (four_at s' (ceiling_at f))) (first_score (result_scores s'))) map_same
+        where
+          by_bit : (b : ℕ) → fields s / 2 % 2 ≡ b
+              → if_present b (signed32 (four_at s (ceiling_at (fields s)))) (first_score (result_scores s))
+              ≡ if_present b (signed32 (four_at s' (ceiling_at (fields s)))) (first_score (result_scores s'))
+          by_bit zero e = ap first_score listed_same
+          by_bit (suc b) e = ap signed32 (four_same (ceiling_at (fields s)) (omega arith))
 
 -- ---- what the operator reader makes of it
 faults_of : Seen → ℕ → List Fault
@@ -104,41 +104,15 @@ faults_of x lent =
     ∷ room_fault x.rows lent
     ∷ []
 
-reading_of : Seen → List ℤ → OperatorReading
+pub reading_of : Seen → List ℤ → OperatorReading
 reading_of x lent =
     settled (first (faults_of x (length lent)))
     (λ k. operator_reading (refused_result k) lent)
     (operator_reading (result_says x.m x.rows x.frame x.ceiling) (padded (pos 0) (length lent) x.scores))
 
-by_seen : (s : List ℕ) (lent : List ℤ) → operator_outcome s lent ≡ reading_of (seen s) lent
+pub by_seen : (s : List ℕ) (lent : List ℤ) → operator_outcome s lent ≡ reading_of (seen s) lent
 unfolding operator_outcome operator_refusal operator_served reading_of faults_of
 by_seen s lent = refl
-
--- ---- NON-INTERFERENCE. For two records of equal length that differ only in packed bits the operator reader says the same, refusals
--- included: the answer and what is left in the lent scores.
-pub operator_sees_no_bits : (s s' : List ℕ) → OnlyPackedBitsDiffer s s' → (lent : List ℤ) → operator_outcome s lent ≡ operator_outcome s' lent
-operator_sees_no_bits s s' d lent =
-    by_seen s lent ∙ ap (λ (x : Seen). reading_of x lent) (seen_same s s' d.as_long d.before) ∙ sym (by_seen s' lent)
-
-answer_of_lem : (k : ℕ) (lent : List ℤ) (served : OperatorReading)
-    → (settled k (λ j. operator_reading (refused_result j) lent) served).answer ≡ settled k refused_result served.answer
-answer_of_lem zero lent served = refl
-answer_of_lem (suc k) lent served = refl
-
--- whatever the lent scores held: lent equally many, it answers the same
-pub operator_answers_alike : (s s' : List ℕ) → OnlyPackedBitsDiffer s s' → (lent lent' : List ℤ) → length lent ≡ length lent'
-    → (operator_outcome s lent).answer ≡ (operator_outcome s' lent').answer
-unfolding operator_outcome operator_served
-operator_answers_alike s s' d lent lent' e =
-    answer_of_lem (operator_refusal s (length lent)) lent (operator_served s (length lent))
-    ∙ ap (λ (n : ℕ). settled (operator_refusal s n) refused_result (said_by s)) e
-    ∙ sym (answer_of_lem (operator_refusal s (length lent')) lent' (operator_served s (length lent')))
-    ∙ ap (λ (o : OperatorReading). o.answer) (operator_sees_no_bits s s' d lent')
-
--- and where it accepts, it leaves the same scores too
-pub operator_reads_alike : (s s' : List ℕ) → OnlyPackedBitsDiffer s s' → (lent lent' : List ℤ) → length lent ≡ length lent'
-    → 0 ≡ operator_refusal s (length lent) → operator_outcome s lent ≡ operator_outcome s' lent'
-operator_reads_alike s s' d lent lent' e a = same_length_same_operator s lent lent' e a ∙ operator_sees_no_bits s s' d lent'
 
 -- ---- the customer reader beside it: it has the operator reader's conditions, and then two of its own
 operator_numbers : (s : List ℕ) (scores : ℕ) → Numbered (operator_faults s scores)

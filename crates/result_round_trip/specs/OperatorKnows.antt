@@ -1,13 +1,11 @@
--- All that the operator reader goes by is the length of a record and the bytes before its packed rows. No code is in scope: the theorem is
--- over the definitions.
-use Rattle.std.specs.Prelude.{◌≡◌, refl, Bool, true, false, List, ℕ, ◌-◌, ◌<◌, min, ltb, length, take, replicate, ℤ}
+-- A record with 0 for every packed byte differs from it in packed bits alone. No code is in scope: the theorem is over the definitions.
+use Rattle.std.specs.Prelude.{◌≡◌, refl, Bool, true, false, List, ℕ, ◌-◌, ◌<◌, min, ltb, length, take, replicate}
 use Rattle.std.proofs.Common.{sym, ◌∙◌, arith, ltb-true, ltb-false, length-append, length-take, get_or-take}
 use Rattle.std.proofs.lemmas.List.{length-replicate}
 use Rattle.std.proofs.Math.ListN.{get_or-append, get_or-eq_default}
 use Rattle.spec.specs.Record.{byte_at}
 use Rattle.spec.specs.Outcome.{padded}
-use Rattle.spec.specs.ResultRecord.{packed_at, operator_outcome, OnlyPackedBitsDiffer}
-use Rattle.result_round_trip.specs.Operator.{operator_sees_no_bits}
+use Rattle.spec.specs.ResultRecord.{packed_at, OnlyPackedBitsDiffer}
 
 -- a record with 0 for every packed byte
 abbrev pub blanked : List ℕ → List ℕ
@@ -19,7 +17,7 @@ length_blanked s =
     let l : length front ≡ min (packed_at s) (length s) = length-take (packed_at s) s in
     omega (arith, length-append front (replicate (length s - length front) 0), length-replicate {A = ℕ} (length s - length front) 0)
 
-only_packed : (s : List ℕ) → OnlyPackedBitsDiffer s (blanked s)
+pub only_packed : (s : List ℕ) → OnlyPackedBitsDiffer s (blanked s)
 only_packed s = record { as_long = length_blanked s; before = λ i h. by_length i h (ltb i (length s)) refl }
   where
     by_length : (i : ℕ) → i < packed_at s → (t : Bool) → ltb i (length s) ≡ t → byte_at s i ≡ byte_at (blanked s) i
@@ -30,7 +28,3 @@ only_packed s = record { as_long = length_blanked s; before = λ i h. by_length 
     by_length i h false e =
         let l = ltb-false i (length s) e in
         get_or-eq_default s 0 l ∙ sym (get_or-eq_default (blanked s) 0 (omega (arith, length_blanked s)))
-
--- with 0 for every packed byte it says the same of the record, refusals included
-pub operator_outcome_by_head : (s : List ℕ) (lent : List ℤ) → operator_outcome s lent ≡ operator_outcome (blanked s) lent
-operator_outcome_by_head s lent = operator_sees_no_bits s (blanked s) (only_packed s) lent
