@@ -39,7 +39,7 @@ by_first_value = refl
 abbrev pub OneReceived : ℤ → Type 0
 OneReceived z = Received frozen123 (1 ∷ []) (replicate 4 9) (softly z) (decode_outcome frozen123 1 4 (softly z) lent4) (replicate 1 9)
 
--- At 0 it is not, so `sent_is_received` does not hold where soft values may also be 0.
+-- At 0 payload 1 is not received so: `sent_is_received` does not hold where soft values may also be 0.
 pub zero_decides_nothing : ReceivedIf Allows → ⊥
 unfolding lent4 frozen123 bits_of unpacked transform frozen frozen_bit input_for encoded largest score children live_by rows first some past_end encode_refusal encode_outcome decode_refusal decode_served decode_outcome
 zero_decides_nothing claim =

@@ -35,7 +35,7 @@ speaks_favours {b} {bit} h (number a c C v k) =
     subst (λ (y : ℤ). Favours y bit) (sym r.1) (signed_favours bit r.0 h)
 speaks_favours {b} {bit} h (endless s e) = subst (λ (y : ℤ). Favours y bit) (sym (soft_of_infinity b (below_for bit) s e)) (signed_favours bit 2046 h)
 
--- ---- all of them
+-- ---- the soft values of a block of samples
 module _ (c : Code) (payload s : List ℕ) (soft : List ℤ) (out : List ℕ) (e : encode_refusal c payload (length out) ≡ 0)
     (q : 0 ≡ quantise_refusal c.m (length s) (length soft)) where
   -- the n soft values that the quantiser's call wrote to the front of soft
