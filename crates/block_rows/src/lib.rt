@@ -8,17 +8,14 @@ use live::{Live, entry_cost, lesser};
 use rows::inputs::write_inputs;
 use rows::scores::{magnitude, score_of, write_scores};
 use rows::words::write_words;
-use slices::times;
 
 // The costs of the first count entries.
 fn read_costs(code: &[u64; 33], count: usize, costs: &mut [u32; 32])
     requires { (count ≤ 32) × (length code.now ≡ 33) × (length costs.old ≡ 32) }
     ensures { CostsRead count code.now costs.new }
 {
-    let mut r = 0;
-    while r < count {
+    for r in 0..count {
         costs[r] = entry_cost(code[r]);
-        r += 1;
     }
 }
 
@@ -38,9 +35,7 @@ pub fn write_bits(
     requires { BitsFit m l p n h count (length inputs.old) (length words.old) (length b.now) }
     ensures { BitsWritten m arikan l p n h count (length inputs.old) (length words.old) b.now inputs.new words.new }
 {
-    let k = 3 * h;
-    let past = times(l, p);
-    write_inputs(inputs, &b[k..], l, p, past, n, count);
+    write_inputs(inputs, &b[3 * h..], l, p, l * p, n, count);
     write_words(words, inputs, m, arikan, n, l, count);
 }
 
@@ -49,8 +44,7 @@ fn ceiling_of(s: Live, total: u32) -> i32
     requires { CeilingFits total s }
     ensures { result ≡ ceiling_from total s }
 {
-    let code = s.code;
-    let least = lesser(entry_cost(code[0]), s.lost);
+    let least = lesser(entry_cost(s.code[0]), s.lost);
     score_of(total, least)
 }
 
@@ -59,11 +53,9 @@ pub fn write_costs(scores: &mut [i32], soft: &[i16], s: Live) -> i32
     requires { CostsFit (length scores.old) soft.now s }
     ensures { CostsWritten (length scores.old) soft.now s result scores.new }
 {
-    let code = s.code;
-    let count = s.count;
     let mut costs = [0u32; 32];
-    read_costs(&code, count, &mut costs);
+    read_costs(&s.code, s.count, &mut costs);
     let total = magnitude(soft);
-    write_scores(scores, &costs, total, count);
+    write_scores(scores, &costs, total, s.count);
     ceiling_of(s, total)
 }

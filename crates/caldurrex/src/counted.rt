@@ -3,7 +3,7 @@ ghost use Rattle.std.specs.Prelude.{◌≡◌};
 ghost use Rattle.list_words.specs.Answers.{answer_of};
 ghost use Rattle.caldurrex.specs.CountFields.{count_fields_of};
 
-use list_words::Counted;
+use refusals::Refusal;
 
 // 0 and how many words there are; else the refusal number, and 0.
 #[repr(C)]
@@ -13,17 +13,16 @@ pub struct CountedFields {
     pub count: u32,
 }
 
-pub(crate) fn counted_fields(c: Counted) -> CountedFields
-    ensures { result ≡ count_fields_of (answer_of c) }
-{
-    match c {
-        Counted::Words(count) => CountedFields {
-            refusal: 0,
-            count: count,
-        },
-        Counted::Refused(k) => CountedFields {
-            refusal: k,
-            count: 0,
-        },
+impl From<Result<u32, Refusal>> for CountedFields {
+    ghost from_gives = { λ answer told. told ≡ count_fields_of (answer_of answer) };
+
+    fn from(answer: Result<u32, Refusal>) -> CountedFields {
+        match answer {
+            Ok(count) => CountedFields { refusal: 0, count },
+            Err(refusal) => CountedFields {
+                refusal: refusal.number(),
+                count: 0,
+            },
+        }
     }
 }

@@ -4,6 +4,7 @@ ghost use Rattle.decoder.specs.Answers.{answer_of};
 ghost use Rattle.caldurrex.specs.Fields.{fields_of};
 
 use decoder::Decoded;
+use refusals::Refusal;
 
 // 0, the row count and the ceiling of a call that is served; else the refusal number, and 0 in both.
 #[repr(C)]
@@ -14,19 +15,21 @@ pub struct DecodedFields {
     pub ceiling: i32,
 }
 
-pub(crate) fn fields_of(d: Decoded) -> DecodedFields
-    ensures { result ≡ fields_of (answer_of d) }
-{
-    match d {
-        Decoded::Rows(rows, ceiling) => DecodedFields {
-            refusal: 0,
-            rows: rows,
-            ceiling: ceiling,
-        },
-        Decoded::Refused(k) => DecodedFields {
-            refusal: k,
-            rows: 0,
-            ceiling: 0,
-        },
+impl From<Result<Decoded, Refusal>> for DecodedFields {
+    ghost from_gives = { λ answer told. told ≡ fields_of (answer_of answer) };
+
+    fn from(answer: Result<Decoded, Refusal>) -> DecodedFields {
+        match answer {
+            Ok(decoded) => DecodedFields {
+                refusal: 0,
+                rows: decoded.rows,
+                ceiling: decoded.ceiling,
+            },
+            Err(refusal) => DecodedFields {
+                refusal: refusal.number(),
+                rows: 0,
+                ceiling: 0,
+            },
+        }
     }
 }

@@ -14,6 +14,7 @@ ghost use Rattle.spec.specs.Samples.{quantised, quantise_outcome};
 ghost use Rattle.spec.specs.ResultRecord.{operator_outcome, customer_outcome};
 ghost use Rattle.spec.specs.ResultWriter.{result_of, write_result_outcome};
 ghost use Rattle.spec.specs.WordList.{list_outcome};
+ghost use Rattle.code.specs.Codes.{code_of};
 ghost use Rattle.job.specs.Answer.{host_reading, for_host};
 ghost use Rattle.record_writer.specs.Answer.{host_writing, length_for_host};
 ghost use Rattle.test_load.specs.Answer.{host_loading, load_for_host};
@@ -22,12 +23,26 @@ ghost use Rattle.caldurrex.specs.Choice.{chosen};
 ghost use Rattle.caldurrex.specs.Fields.{returned, as_returned};
 ghost use Rattle.caldurrex.specs.CountFields.{returned_count, as_returned_count};
 
-use counted::{CountedFields, counted_fields};
-use fields::{DecodedFields, fields_of};
+use code::Code;
+use counted::CountedFields;
+use fields::DecodedFields;
 use job::JobFields;
 use record_writer::RecordLength;
+use refusals::number_for_host;
 use result::ResultFields;
 use test_load::LoadFields;
+
+// The code of a call from C.
+fn code_from_host<'a>(m: u32, arikan: u8, map: &'a [u8], pairs: &'a [u8]) -> Code<'a>
+    ensures { code_of result ≡ code m (chosen arikan) map.now pairs.now }
+{
+    Code {
+        m,
+        arikan: arikan != 0,
+        map,
+        pairs,
+    }
+}
 
 #[unsafe(no_mangle)]
 pub extern "C" fn caldurrex_encode(
@@ -41,7 +56,8 @@ pub extern "C" fn caldurrex_encode(
     ensures { written result word.new
         ≡ encode_outcome (code m (chosen arikan) map.now pairs.now) payload.now word.old }
 {
-    encoder::encode(m, arikan != 0, map, pairs, payload, word)
+    let code = code_from_host(m, arikan, map, pairs);
+    number_for_host(encoder::encode(code, payload, word))
 }
 
 #[unsafe(no_mangle)]
@@ -56,7 +72,8 @@ pub extern "C" fn caldurrex_extract(
     ensures { written result payload.new
         ≡ extract_outcome (code m (chosen arikan) map.now pairs.now) word.now payload.old }
 {
-    extractor::extract(m, arikan != 0, map, pairs, word, payload)
+    let code = code_from_host(m, arikan, map, pairs);
+    number_for_host(extractor::extract(code, word, payload))
 }
 
 #[unsafe(no_mangle)]
@@ -77,21 +94,11 @@ pub extern "C" fn caldurrex_decode(
     ensures { returned result (lent numbers.new bytes.new inputs.new words.new scores.new)
         ≡ as_returned (decode_outcome (code m (chosen arikan) map.now pairs.now) list stop soft.now (lent numbers.old bytes.old inputs.old words.old scores.old)) }
 {
-    let d = decoder::decode(
-        m,
-        arikan != 0,
-        map,
-        pairs,
-        list,
-        stop,
-        soft,
-        numbers,
-        bytes,
-        inputs,
-        words,
-        scores,
-    );
-    fields_of(d)
+    let code = code_from_host(m, arikan, map, pairs);
+    decoder::decode(
+        code, list, stop, soft, numbers, bytes, inputs, words, scores,
+    )
+    .into()
 }
 
 #[unsafe(no_mangle)]
@@ -111,20 +118,8 @@ pub extern "C" fn caldurrex_list_words(
     ensures { returned_count result (lent numbers.new bytes.new inputs.new words.new scores.new)
         ≡ as_returned_count (list_outcome (code m (chosen arikan) map.now pairs.now) mark soft.now (lent numbers.old bytes.old inputs.old words.old scores.old)) }
 {
-    let c = list_words::list_words(
-        m,
-        arikan != 0,
-        map,
-        pairs,
-        mark,
-        soft,
-        numbers,
-        bytes,
-        inputs,
-        words,
-        scores,
-    );
-    counted_fields(c)
+    let code = code_from_host(m, arikan, map, pairs);
+    list_words::list_words(code, mark, soft, numbers, bytes, inputs, words, scores).into()
 }
 
 #[unsafe(no_mangle)]
@@ -137,7 +132,7 @@ pub extern "C" fn caldurrex_read_job(
     ensures { host_reading result map.new soft.new pairs.new
         ≡ for_host (read_outcome bytes.now map.old soft.old pairs.old) }
 {
-    job::read_job_fields(bytes, map, soft, pairs)
+    job::read_job(bytes, map, soft, pairs).into()
 }
 
 #[unsafe(no_mangle)]
@@ -156,7 +151,8 @@ pub extern "C" fn caldurrex_write_job(
         ≡ length_for_host (write_outcome (fields_of (code m (chosen arikan) map.now pairs.now) list stop frame soft.now)
         bytes.old) }
 {
-    job_writer::write_job_for_host(m, arikan != 0, map, pairs, list, stop, frame, soft, bytes)
+    let code = code_from_host(m, arikan, map, pairs);
+    job_writer::write_job(code, list, stop, frame, soft, bytes).into()
 }
 
 #[unsafe(no_mangle)]
@@ -174,14 +170,15 @@ pub extern "C" fn caldurrex_test_load(
         ≡ load_for_host (load_outcome state (code m (chosen arikan) map.now pairs.now) frame bytes.old
         payload.old) }
 {
-    test_load::test_load_for_host(state, m, arikan != 0, map, pairs, frame, bytes, payload)
+    let code = code_from_host(m, arikan, map, pairs);
+    test_load::test_load(state, code, frame, bytes, payload).into()
 }
 
 #[unsafe(no_mangle)]
 pub extern "C" fn caldurrex_quantise(m: u32, samples: &[u8], soft: &mut [i16]) -> u32
     ensures { quantised result soft.new ≡ quantise_outcome m samples.now soft.old }
 {
-    quantise::quantise(m, samples, soft)
+    number_for_host(quantise::quantise(m, samples, soft))
 }
 
 #[unsafe(no_mangle)]
@@ -197,7 +194,7 @@ pub extern "C" fn caldurrex_write_result(
     ensures { host_writing result bytes.new
         ≡ length_for_host (write_result_outcome (result_of m rows frame ceiling scores.now inputs.now) bytes.old) }
 {
-    result_writer::write_result_for_host(m, rows, frame, ceiling, scores, inputs, bytes)
+    result_writer::write_result(m, rows, frame, ceiling, scores, inputs, bytes).into()
 }
 
 #[unsafe(no_mangle)]
@@ -209,12 +206,12 @@ pub extern "C" fn caldurrex_read_result(
     ensures { host_customer result scores.new inputs.new
         ≡ customer_for_host (customer_outcome bytes.now scores.old inputs.old) }
 {
-    result::read_result_fields(bytes, scores, inputs)
+    result::read_result(bytes, scores, inputs).into()
 }
 
 #[unsafe(no_mangle)]
 pub extern "C" fn caldurrex_read_result_operator(bytes: &[u8], scores: &mut [i32]) -> ResultFields
     ensures { host_operator result scores.new ≡ operator_for_host (operator_outcome bytes.now scores.old) }
 {
-    result::read_result_operator_fields(bytes, scores)
+    result::read_result_operator(bytes, scores).into()
 }

@@ -2,30 +2,30 @@
 ghost use Rattle.std.specs.Prelude.{◌≡◌, ltb};
 ghost use Rattle.spec.specs.Faults.{first, some};
 ghost use Rattle.code.specs.Given.{bit_faults};
+ghost use Rattle.refusals.specs.Number.{refused};
 
-// A byte above 1.
+use refusals::Refusal;
+
+// A byte above 1. All are looked at, and none ends the loop: so it runs in vector instructions.
 fn above_one(s: &[u8]) -> bool
     ensures { result ≡ some (ltb 1) s.now }
 {
-    let mut i = 0;
-    while i < s.len() {
-        if s[i] > 1 {
-            return true;
-        }
-        i += 1;
+    let mut above = false;
+    for x in s {
+        above |= *x > 1;
     }
-    false
+    above
 }
 
-// Refusals 6 and 11, or 0: s must be n bits.
-pub fn bit_refusal(n: usize, s: &[u8]) -> u32
-    ensures { result ≡ first (bit_faults n s.now) }
+// Refusals 6 and 11: s must be n bits.
+pub fn check_bits(n: usize, s: &[u8]) -> Result<(), Refusal>
+    ensures { refused result ≡ first (bit_faults n s.now) }
 {
     if s.len() != n {
-        return 6;
+        return Err(Refusal::GivenLength);
     }
     if above_one(s) {
-        return 11;
+        return Err(Refusal::NotBits);
     }
-    0
+    Ok(())
 }

@@ -9,9 +9,8 @@ mod payload;
 mod shape;
 mod sums;
 
-pub use bits::bit_refusal;
+pub use bits::check_bits;
 pub use flags::flag;
 pub use pairs::named;
-pub use payload::payload_size;
-pub use shape::{code_refusal, size};
+pub use shape::{Code, size};
 pub use sums::{frozen_bit, run_end};

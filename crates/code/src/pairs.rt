@@ -35,14 +35,12 @@ fn some_wrong(n: usize, map: &[u8], pairs: &[u8]) -> bool
     requires { (n ≤ 8 * length map.now) × (length pairs.now % 4 ≡ 0) }
     ensures { result ≡ some (wrong_pair (flags_of n map.now)) (pairs_in pairs.now) }
 {
-    let mut at = 0;
-    while at < pairs.len() {
-        let f = named(pairs, at);
-        let e = named(pairs, at + 2);
+    for i in 0..pairs.len() / 4 {
+        let f = named(pairs, 4 * i);
+        let e = named(pairs, 4 * i + 2);
         if wrong_pair(n, map, f, e) {
             return true;
         }
-        at += 4;
     }
     false
 }
@@ -53,26 +51,17 @@ fn rises(pairs: &[u8], at: usize) -> bool
     ensures { result ≡ before (pair (two_at pairs.now (at - 4)) (two_at pairs.now (at - 2)))
         (pair (two_at pairs.now at) (two_at pairs.now (at + 2))) }
 {
-    let f = named(pairs, at - 4);
-    let g = named(pairs, at);
-    if f < g {
-        return true;
-    }
-    if f != g {
-        return false;
-    }
-    named(pairs, at - 2) < named(pairs, at + 2)
+    let one = (named(pairs, at - 4), named(pairs, at - 2));
+    let next = (named(pairs, at), named(pairs, at + 2));
+    one < next
 }
 
 fn not_rising(pairs: &[u8]) -> bool
     requires { length pairs.now % 4 ≡ 0 }
     ensures { result ≡ not_rising (pairs_in pairs.now) }
 {
-    let mut at = 4;
-    while at < pairs.len() {
-        if rises(pairs, at) {
-            at += 4;
-        } else {
+    for i in 1..pairs.len() / 4 {
+        if !rises(pairs, 4 * i) {
             return true;
         }
     }

@@ -10,7 +10,7 @@ use crate::shape::size;
 fn ones_of(x: u8) -> usize
     ensures { (result ≡ ones x) × (result ≤ 8) }
 {
-    u8::count_ones(x) as usize
+    x.count_ones() as usize
 }
 
 // The ones of all bytes of the map: with its clear bits they make up all its bits.
@@ -19,16 +19,14 @@ fn count_frozen(map: &[u8]) -> usize
     ensures { result + clear (unpacked map.now) ≡ 8 * length map.now }
 {
     let mut k = 0;
-    let mut i = 0;
-    while i < map.len() {
-        k += ones_of(map[i]);
-        i += 1;
+    for x in map {
+        k += ones_of(*x);
     }
     k
 }
 
 // k, whatever the transform and the pairs are.
-pub fn payload_size(m: u32, map: &[u8]) -> usize
+pub(crate) fn payload_size(m: u32, map: &[u8]) -> usize
     requires { (m ≤ 10) × (length map.now ≡ map_bytes (2 ^ m)) × (past_end (2 ^ m) map.now ≡ false) }
     ensures { (arikan : Bool) (pairs : List ℕ) → result ≡ payload_size (code m arikan map.now pairs) }
 {

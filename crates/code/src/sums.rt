@@ -14,14 +14,12 @@ pub fn run_end(pairs: &[u8], from: usize, i: usize) -> usize
     ensures { Part from result pairs.now
         × ((flags : List ℕ) → Reached flags i from pairs.now → RunEnds flags i result pairs.now) }
 {
-    let mut to = from;
-    while to < pairs.len() {
-        if named(pairs, to) != i {
-            return to;
+    for k in from / 4..pairs.len() / 4 {
+        if named(pairs, 4 * k) != i {
+            return 4 * k;
         }
-        to += 4;
     }
-    to
+    pairs.len()
 }
 
 fn plus(a: u8, b: u8) -> u8
@@ -40,10 +38,7 @@ fn plus(a: u8, b: u8) -> u8
 fn bit_at(w: &[u8], e: usize) -> u8
     ensures { result ≡ get_or w.now e 0 }
 {
-    if e < w.len() {
-        return w[e];
-    }
-    0
+    w.get(e).copied().unwrap_or(0)
 }
 
 // The sum with the bit of the pair that begins at `at`, if that is one of position i.
@@ -67,10 +62,8 @@ pub fn frozen_bit(pairs: &[u8], from: usize, to: usize, i: usize, w: &[u8]) -> u
         → result ≡ sum_at (pairs_in (drop from pairs.now)) i w.now }
 {
     let mut sum: u8 = 0;
-    let mut at = to;
-    while from < at {
-        at -= 4;
-        sum = add_pair(pairs, at, i, w, sum);
+    for k in (from / 4..to / 4).rev() {
+        sum = add_pair(pairs, 4 * k, i, w, sum);
     }
     sum
 }

@@ -1,61 +1,44 @@
--- A soft value, negated where a bit is 1, added to a number modulo 2 ^ 32 by its magnitude. Assumes nothing.
-use Rattle.std.proofs.Common.{◌≡◌, ℕ, zero, suc, ◌+◌, ◌%◌, ◌<◌, true, false, ℤ, pos, negsuc, ◌+ℤ◌, ◌-ℤ◌, neg_ℤ, nat_abs, sym, refl, ap, ◌∙◌, true≢false, arith, ltb-true}
-use lib.IntN.{neg_ℤ-neg_ℤ}
-use lib.Signed.{lt_z}
+-- A soft value, negated where a bit is 1, added to a number modulo 2 ^ 32. Assumes nothing.
+use Rattle.std.proofs.Common.{◌≡◌, ℕ, zero, suc, ◌+◌, ◌%◌, ◌<◌, ℤ, pos, negsuc, ◌+ℤ◌, ◌-ℤ◌, neg_ℤ, ap, ◌∙◌, refl, ap₂, w16, w32, to_z, of_z, arith}
+use lib.IntN.{+ℤ_idl}
+use lib.Signed.{mag}
+use mir.ValLaws.{to_z-of_z}
 use Rattle.spec.specs.Score.{signed}
 use Rattle.correlations.specs.Folding.{wrapped}
-use Rattle.correlations.specs.Wrapped.{wrapped_add, wrapped_sub}
+use Rattle.correlations.specs.Wrapped.{wrapped_add}
 
--- ---- a magnitude m added to a number that stands for z, and taken from it
-module _ (z : ℤ) {x : ℕ} (m : ℕ) {r : ℕ} (e : x ≡ wrapped z) where
-  plus_is : r ≡ (x + m) % 4294967296 → r ≡ wrapped (z +ℤ pos m)
-  unfolding wrapped
-  plus_is p = p ∙ ap (λ (k : ℕ). (k + m) % 4294967296) e ∙ low (wrapped z) ∙ wrapped_add z (pos m)
-    where
-      low : (w : ℕ) → (w + m) % 4294967296 ≡ (w + m % 4294967296) % 4294967296
-      low w = omega arith
+code_is : (s : ℤ) → mag s < 2147483648 → of_z w32 s ≡ wrapped s
+unfolding wrapped
+code_is (pos n) h = omega arith
+code_is (negsuc n) h = omega arith
 
-  minus_is : r < 4294967296 → (r + m) % 4294967296 ≡ x → r ≡ wrapped (z -ℤ pos m)
-  unfolding wrapped
-  minus_is l p = wrapped_sub z (pos m) r l (low ∙ p ∙ e)
-    where
-      low : (r + m % 4294967296) % 4294967296 ≡ (r + m) % 4294967296
-      low = omega arith
+-- r is x with s added, which is read as v
+added : (x r : ℕ) (s v : ℤ) → v ≡ s → mag s < 2147483648 → r ≡ (x + of_z w32 v) % 4294967296 → (z : ℤ) → x ≡ wrapped z → r ≡ wrapped (z +ℤ s)
+added x r s v e h q z p = q ∙ ap₂ (λ (m n : ℕ). (m + n) % 4294967296) p (ap (of_z w32) e ∙ code_is s h) ∙ wrapped_add z s
 
--- ---- a number from its magnitude, by a test of its sign
-below_zero : (y : ℤ) → lt_z y (pos 0) ≡ true → y ≡ neg_ℤ (pos (nat_abs y))
-below_zero (pos n) t = absurd (omega (arith, ltb-true n 0 t))
-below_zero (negsuc n) t = refl
+negated_fits : (y : ℤ) → mag y < 32768 → mag (neg_ℤ y) < 2147483648
+negated_fits (pos zero) h = omega arith
+negated_fits (pos (suc n)) h = omega arith
+negated_fits (negsuc n) h = omega arith
 
-not_below : (y : ℤ) → lt_z y (pos 0) ≡ false → y ≡ pos (nat_abs y)
-not_below (pos n) t = refl
-not_below (negsuc n) t = absurd (true≢false t)
+negated : (y : ℤ) (b : ℕ) → (b ≡ 0 → ⊥) → signed y b ≡ neg_ℤ y
+negated y zero n = absurd (n refl)
+negated y (suc b) n = refl
 
-negated : (y : ℤ) (b : ℕ) → 0 < b → signed y b ≡ neg_ℤ y
-negated y zero l = absurd (omega arith)
-negated y (suc b) l = refl
+-- y is read as f in 32 bits
+module _ (y f : ℤ) (small : mag y < 32768) (read : f ≡ to_z w16 (of_z w16 y)) where
+  same : f ≡ y
+  same = read ∙ to_z-of_z w16 y (record { sfits = small })
 
--- ---- the four cases: v is y as code reads it, m its magnitude, r the number x with y added
-abbrev Added : ℤ → ℕ → ℕ → ℕ → Type 0
-Added y b x r = (z : ℤ) → x ≡ wrapped z → r ≡ wrapped (z +ℤ signed y b)
+  wide : to_z w32 (of_z w32 f) ≡ y
+  wide = ap (λ (k : ℤ). to_z w32 (of_z w32 k)) same ∙ to_z-of_z w32 y (record { sfits = omega arith })
 
-module _ (v y : ℤ) {m : ℕ} (ev : v ≡ y) (em : m ≡ nat_abs v) where
-  below : lt_z v (pos 0) ≡ true → y ≡ neg_ℤ (pos m)
-  below t = sym ev ∙ below_zero v t ∙ ap (λ (k : ℕ). neg_ℤ (pos k)) (sym em)
+  module _ (b x r : ℕ) (v : ℤ) (q : r ≡ (x + of_z w32 v) % 4294967296) where
+    pub kept_added : b ≡ 0 → v ≡ to_z w32 (of_z w32 f) → (z : ℤ) → x ≡ wrapped z → r ≡ wrapped (z +ℤ signed y b)
+    kept_added e k = rw e (added x r y v (k ∙ wide) (omega arith) q)
 
-  above : lt_z v (pos 0) ≡ false → y ≡ pos m
-  above t = sym ev ∙ not_below v t ∙ ap pos (sym em)
-
-  module _ (b : ℕ) {x r : ℕ} where
-    pub below_kept : b ≡ 0 → lt_z v (pos 0) ≡ true → r < 4294967296 → (r + m) % 4294967296 ≡ x → Added y b x r
-    below_kept eb t l p z e = minus_is z m e l p ∙ ap (λ (k : ℤ). wrapped (z +ℤ k)) (sym (ap (signed y) eb ∙ below t))
-
-    pub above_kept : b ≡ 0 → lt_z v (pos 0) ≡ false → r ≡ (x + m) % 4294967296 → Added y b x r
-    above_kept eb t p z e = plus_is z m e p ∙ ap (λ (k : ℤ). wrapped (z +ℤ k)) (sym (ap (signed y) eb ∙ above t))
-
-    pub below_negated : 0 < b → lt_z v (pos 0) ≡ true → r ≡ (x + m) % 4294967296 → Added y b x r
-    below_negated lb t p z e =
-        plus_is z m e p ∙ ap (λ (k : ℤ). wrapped (z +ℤ k)) (sym (negated y b lb ∙ ap neg_ℤ (below t) ∙ neg_ℤ-neg_ℤ (pos m)))
-
-    pub above_negated : 0 < b → lt_z v (pos 0) ≡ false → r < 4294967296 → (r + m) % 4294967296 ≡ x → Added y b x r
-    above_negated lb t l p z e = minus_is z m e l p ∙ ap (λ (k : ℤ). wrapped (z +ℤ k)) (sym (negated y b lb ∙ ap neg_ℤ (above t)))
+    pub negated_added : (b ≡ 0 → ⊥) → v ≡ to_z w32 (of_z w32 (pos 0 -ℤ to_z w32 (of_z w32 f))) → (z : ℤ) → x ≡ wrapped z → r ≡ wrapped (z +ℤ signed y b)
+    negated_added n k =
+        let away : pos 0 -ℤ to_z w32 (of_z w32 f) ≡ neg_ℤ y = ap (λ (t : ℤ). pos 0 -ℤ t) wide ∙ +ℤ_idl (neg_ℤ y) in
+        let back : v ≡ neg_ℤ y = k ∙ ap (λ (t : ℤ). to_z w32 (of_z w32 t)) away ∙ to_z-of_z w32 (neg_ℤ y) (record { sfits = negated_fits y small }) in
+        rw (negated y b n) (added x r (neg_ℤ y) v back (negated_fits y small) q)

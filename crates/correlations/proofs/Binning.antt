@@ -1,8 +1,7 @@
 -- Soft values added up in bins, position by position: where the loop stands, one turn, and the end. Assumes nothing.
-use Rattle.std.proofs.Common.{◌≡◌, ℕ, zero, suc, ◌+◌, ◌-◌, ◌<◌, ◌≤◌, List, [], ◌∷◌, map, length, get_or, drop, set, replicate, ℤ, pos, ◌+ℤ◌, sym, refl, ap, ◌∙◌, ap₂, add-one, arith, length-set, drop_of_length-le, drop-cons}
-use lib.ListN.{get_or-map}
+use Rattle.std.proofs.Common.{◌≡◌, ℕ, zero, suc, ◌+◌, ◌<◌, ◌≤◌, List, [], ◌∷◌, map, length, get_or, drop, set, replicate, ℤ, pos, ◌+ℤ◌, sym, refl, ap, ◌∙◌, ap₂, add-one, arith, length-set, drop-cons}
+use lib.ListN.{get_or-map, length-replicate}
 use Rattle.spec.specs.Score.{signed}
-use Rattle.slices.specs.Fill.{filled_from}
 use Rattle.correlations.specs.Folding.{wrapped, add_at, binned, signed_by}
 
 -- ---- where the loop stands: the bins hold some numbers, and the positions from i on are still to be added to them
@@ -28,17 +27,14 @@ unfolding wrapped
 held_at u c = get_or-map wrapped u c (pos 0)
 
 module _ (cols w : List ℕ) (ys : List ℤ) where
-  pub binning_none : (s bins : List ℕ) → bins ≡ filled_from 0 0 s → length bins ≡ length s → Binning cols w ys (length bins) bins 0
-  unfolding filled_from
-  binning_none s bins e k =
-      let all : length s - 0 ≡ length bins = omega arith in
-      record {
-        near = omega arith;
-        kept = refl;
-        held = replicate (length bins) (pos 0);
-        is = e ∙ ap (λ (m : ℕ). replicate m 0) all ∙ sym (map_zeros (length bins));
-        rest = refl;
-      }
+  pub binning_none : (n : ℕ) (bins : List ℕ) → bins ≡ replicate n 0 → Binning cols w ys n bins 0
+  binning_none n bins e = record {
+    near = omega arith;
+    kept = ap length e ∙ length-replicate n 0;
+    held = replicate n (pos 0);
+    is = e ∙ sym (map_zeros n);
+    rest = refl;
+  }
 
   module _ (ew : length w ≡ length ys) (ec : length cols ≡ length ys) {n i : ℕ} {bins : List ℕ} (b : Binning cols w ys n bins i) where
     -- position i: its column c, its soft value y, and v, which is bin c with y added
@@ -62,9 +58,3 @@ module _ (cols w : List ℕ) (ys : List ℤ) where
               ∙ ap₂ (λ (d : ℕ) (x : ℤ). binned (drop (suc i) cols) (signed_by (drop (suc i) ys) (drop (suc i) w)) (add_at d (signed x (get_or w i 0)) u)) (sym e) (sym f)
               ∙ ap (λ (k : ℕ). binned (drop k cols) (signed_by (drop k ys) (drop k w)) (add_at c z u)) (sym (add-one i));
         }
-
-    pub binning_done : length ys ≤ i → bins ≡ map wrapped (binned cols (signed_by ys w) (replicate n (pos 0)))
-    binning_done l =
-        b.is
-        ∙ ap (map wrapped)
-        (sym (b.rest ∙ ap (λ (ds : List ℕ). binned ds (signed_by (drop i ys) (drop i w)) b.held) (drop_of_length-le cols {i = i} (omega (arith, ec)))))

@@ -1,35 +1,21 @@
 -- The halves of a slice crossed place by place: where the loop stands, one turn, and the end. Assumes nothing.
-use Rattle.std.proofs.Common.{◌≡◌, ℕ, zero, suc, ◌+◌, ◌%◌, ◌<◌, ◌≤◌, List, [], ◌∷◌, ◌++◌, map, length, get_or, take, drop, set, ℤ, pos, ◌+ℤ◌, ◌-ℤ◌, sym, refl, ap, ◌∙◌, ap₂, le_of_suc-le-suc, not-suc-le-zero, add-one, arith, length-drop, length-set, take-append-drop, length-take, get_or-drop, get_or-take, drop-set-lt}
+use Rattle.std.proofs.Common.{◌≡◌, ℕ, zero, suc, ◌+◌, ◌-◌, ◌%◌, ◌<◌, ◌≤◌, List, [], ◌∷◌, ◌++◌, map, length, get_or, take, drop, set, ℤ, pos, ◌+ℤ◌, ◌-ℤ◌, sym, refl, ap, ◌∙◌, ap₂, le_of_suc-le-suc, not-suc-le-zero, add-one, arith, length-drop, length-set, take-append-drop, length-take, get_or-drop, get_or-take, drop-set-lt}
 use mathlib.Core.List.{map-append}
 use native.Mathlib.Nat.{suc_inj}
 use lib.ListN.{length-map}
+use Rattle.std.proofs.lemmas.List.{take-map, drop-map}
 use lib.Seq.{take-set-lt, take-set-le, drop-set-add}
 use Rattle.correlations.specs.Folding.{wrapped, sums, differences, crossed}
-use Rattle.correlations.specs.Wrapped.{wrapped_add, wrapped_sub}
+use Rattle.correlations.specs.Wrapped.{wrapped_lt, wrapped_add, wrapped_sub}
 
-module _ {A B : Type 0} (f : A → B) where
-  pub map_take : (k : ℕ) (u : List A) → take k (map f u) ≡ map f (take k u)
-  map_take zero u = refl
-  map_take (suc k) [] = refl
-  map_take (suc k) (a ∷ u) = ap (λ (l : List B). f a ∷ l) (map_take k u)
+-- ---- sums and differences as code computes them
+pub sum_is : (a b : ℤ) {x y : ℕ} → x ≡ wrapped a → y ≡ wrapped b → (x + y) % 4294967296 ≡ wrapped (a +ℤ b)
+sum_is a b ea eb = ap₂ (λ (m n : ℕ). (m + n) % 4294967296) ea eb ∙ wrapped_add a b
 
-  pub map_drop : (k : ℕ) (u : List A) → drop k (map f u) ≡ map f (drop k u)
-  map_drop zero u = refl
-  map_drop (suc k) [] = refl
-  map_drop (suc k) (a ∷ u) = map_drop k u
-
--- ---- p and q are the sum and the difference of x and y, as code computes them
-pub record Pair (x y p q : ℕ) : Type 0 where
-  pub sum : p ≡ (x + y) % 4294967296
-  pub difference : (q + y) % 4294967296 ≡ x
-  pub small : q < 4294967296
-
-module _ {x y p q : ℕ} (t : Pair x y p q) (a b : ℤ) (ea : x ≡ wrapped a) (eb : y ≡ wrapped b) where
-  pub sum_is : p ≡ wrapped (a +ℤ b)
-  sum_is = t.sum ∙ ap₂ (λ (m n : ℕ). (m + n) % 4294967296) ea eb ∙ wrapped_add a b
-
-  pub difference_is : q ≡ wrapped (a -ℤ b)
-  difference_is = wrapped_sub a b q t.small (ap (λ (n : ℕ). (q + n) % 4294967296) (sym eb) ∙ t.difference ∙ ea)
+pub difference_is : (a b : ℤ) {x y : ℕ} → x ≡ wrapped a → y ≡ wrapped b → (x + (4294967296 - y)) % 4294967296 ≡ wrapped (a -ℤ b)
+difference_is a b ea eb =
+    ap₂ (λ (m n : ℕ). (m + (4294967296 - n)) % 4294967296) ea eb
+    ∙ wrapped_sub a b ((wrapped a + (4294967296 - wrapped b)) % 4294967296) (omega arith) (omega (arith, wrapped_lt a, wrapped_lt b))
 
 -- ---- a half of which i places are done: those with the other half's by op, then the rest
 abbrev mixed : (ℤ → ℤ → ℤ) → ℕ → List ℤ → List ℤ → List ℤ
@@ -84,8 +70,8 @@ pub crossing_none : (h : ℕ) (s : List ℕ) → Crossing h s s 0
 crossing_none h s = record {
   near = omega arith;
   kept = refl;
-  first = λ zs e. ap (take h) e ∙ map_take wrapped h zs;
-  second = λ zs e. ap (drop h) e ∙ map_drop wrapped h zs;
+  first = λ zs e. ap (take h) e ∙ take-map wrapped h zs;
+  second = λ zs e. ap (drop h) e ∙ drop-map wrapped h zs;
 }
 
 module _ (h : ℕ) (s₀ : List ℕ) (long : length s₀ ≡ h + h) where
@@ -106,8 +92,14 @@ module _ (h : ℕ) (s₀ : List ℕ) (long : length s₀ ≡ h + h) where
     abbrev y : ℕ
     y = get_or s (h + i) 0
 
-    -- a turn: p and q are those of what stands there
-    module _ {p q : ℕ} (lt : i < h) (t : Pair x y p q) where
+    -- a turn: p and q are the sum and the difference of what stands there
+    module _ (lt : i < h) where
+      abbrev p : ℕ
+      p = (x + y) % 4294967296
+
+      abbrev q : ℕ
+      q = (x + (4294967296 - y)) % 4294967296
+
       module _ (zs : List ℤ) (e : s₀ ≡ map wrapped zs) where
         abbrev a : ℤ
         a = get_or (take h zs) i (pos 0)
@@ -137,7 +129,7 @@ module _ (h : ℕ) (s₀ : List ℕ) (long : length s₀ ≡ h + h) where
         first_more =
             take-set-le h (set s i p) (h + i) q (omega arith)
             ∙ take-set-lt h s i p lt
-            ∙ ap₂ (λ (l : List ℕ) (k : ℕ). set l i k) (c.first zs e) (sum_is t a b x_is y_is)
+            ∙ ap₂ (λ (l : List ℕ) (k : ℕ). set l i k) (c.first zs e) (sum_is a b x_is y_is)
             ∙ mixed_more ◌+ℤ◌ i (take h zs) (drop h zs) in_front in_rest
             ∙ ap (λ (k : ℕ). map wrapped (mixed ◌+ℤ◌ k (take h zs) (drop h zs))) (sym (add-one i))
 
@@ -145,7 +137,7 @@ module _ (h : ℕ) (s₀ : List ℕ) (long : length s₀ ≡ h + h) where
         second_more =
             drop-set-add h (set s i p) i q
             ∙ ap (λ (l : List ℕ). set l i q) (drop-set-lt h s i p lt)
-            ∙ ap₂ (λ (l : List ℕ) (k : ℕ). set l i k) (c.second zs e) (difference_is t a b x_is y_is)
+            ∙ ap₂ (λ (l : List ℕ) (k : ℕ). set l i k) (c.second zs e) (difference_is a b x_is y_is)
             ∙ mixed_more from i (drop h zs) (take h zs) in_rest in_front
             ∙ ap (λ (k : ℕ). map wrapped (mixed from k (drop h zs) (take h zs))) (sym (add-one i))
 

@@ -1,10 +1,10 @@
 -- Bins folded by a call on each half, one after the other: what the calls are lent, and what they leave. Assumes nothing.
-use Rattle.std.proofs.Common.{◌≡◌, ℕ, suc, ◌+◌, ◌-◌, ◌*◌, ◌/◌, ◌^◌, ◌<◌, List, ◌++◌, map, length, take, drop, ℤ, sym, ap, ◌∙◌, ap₂, append-nil, arith, length-append, length-drop, drop_of_length-le, length-take, take_all, take_at, drop_at}
+use Rattle.std.proofs.Common.{◌≡◌, ℕ, suc, ◌+◌, ◌-◌, ◌*◌, ◌/◌, ◌^◌, ◌<◌, List, ◌++◌, map, length, take, drop, ℤ, sym, ap, ◌∙◌, ap₂, arith, length-drop, length-take, take_at, drop_at}
 use mathlib.Core.List.{map-append}
 use lib.ListN.{length-map}
-use borrow.Rule.Slice.PartMut.{put_mid}
+use Rattle.std.proofs.lemmas.List.{take-map, drop-map}
 use Rattle.correlations.specs.Folding.{wrapped, sums, differences, crossed, folded}
-use Rattle.correlations.proofs.Crossing.{map_take, map_drop, length_sums}
+use Rattle.correlations.proofs.Crossing.{length_sums}
 
 -- ---- 2 ^ r bins, r above 0; half of them is h
 module _ (r h : ℕ) (half : h ≡ 2 ^ r / 2) (some : 0 < r) where
@@ -37,23 +37,10 @@ module _ (r h : ℕ) (half : h ≡ 2 ^ r / 2) (some : 0 < r) where
         let es : length (sums u v) ≡ h = length_sums u v (eu ∙ sym ev) ∙ eu in
         let up : suc (r - 1) ≡ r = omega arith in
         let a : take h M ≡ map wrapped (sums u v) =
-        ap (take h) (crossing zs e) ∙ map_take wrapped h (crossed h zs) ∙ ap (map wrapped) (take_at (sums u v) (differences u v) h es) in
+        ap (take h) (crossing zs e) ∙ take-map wrapped h (crossed h zs) ∙ ap (map wrapped) (take_at (sums u v) (differences u v) h es) in
         let b : drop h M ≡ map wrapped (differences u v) =
-        ap (drop h) (crossing zs e) ∙ map_drop wrapped h (crossed h zs) ∙ ap (map wrapped) (drop_at (sums u v) (differences u v) h es) in
+        ap (drop h) (crossing zs e) ∙ drop-map wrapped h (crossed h zs) ∙ ap (map wrapped) (drop_at (sums u v) (differences u v) h es) in
         ap₂ ◌++◌ (first (sums u v) a) (second (differences u v) b)
         ∙ sym (map-append wrapped (folded (r - 1) (sums u v)) (folded (r - 1) (differences u v)))
         ∙ ap (λ (k : ℕ). map wrapped (folded (r - 1) (sums (take k zs) (drop k zs)) ++ folded (r - 1) (differences (take k zs) (drop k zs)))) half_is
         ∙ ap (λ (k : ℕ). map wrapped (folded k zs)) up
-
--- ---- the part that the second call is lent is the second half, and when both are back, the list is the first call's and the second's
-module _ (A D : List ℕ) (h : ℕ) (e : length A ≡ h) where
-  pub second_lent : take (length (A ++ D) - h) (drop h (A ++ D)) ≡ D
-  second_lent =
-      ap (λ (l : List ℕ). take (length (A ++ D) - h) l) (drop_at A D h e)
-      ∙ take_all (length (A ++ D) - h) D (omega (arith, length-append A D))
-
-  pub second_put : (B : List ℕ) → put_mid h (length (A ++ D) - h) (A ++ D) B ≡ A ++ B
-  second_put B =
-      ap₂ (λ (u v : List ℕ). u ++ (B ++ drop (length (A ++ D) - h) v)) (take_at A D h e) (drop_at A D h e)
-      ∙ ap (λ (v : List ℕ). A ++ (B ++ v)) (drop_of_length-le D {i = length (A ++ D) - h} (omega (arith, length-append A D)))
-      ∙ ap (λ (l : List ℕ). A ++ l) (append-nil B)

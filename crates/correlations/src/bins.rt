@@ -6,31 +6,15 @@ ghost use Rattle.spec.specs.Score.{signed, taken};
 ghost use Rattle.laws.specs.ListCost.{All};
 ghost use Rattle.correlations.specs.Folding.{wrapped, binned, signed_by};
 
-use ranges::{magnitude_of, taken_at};
-use slices::fill_words;
-use std::num::{wrapping_add_u32, wrapping_sub_u32};
-
-fn wide(x: u32) -> usize
-    ensures { result ≡ x }
-{
-    x as usize
-}
+use ranges::taken_at;
 
 // x and the soft value y, negated where the bit b is 1.
 fn add_signed(x: u32, y: i16, b: u8) -> u32
     ensures { (z : ℤ) → x ≡ wrapped z → result ≡ wrapped (z +ℤ signed y b) }
 {
-    let m = magnitude_of(y);
-    if b == 0 {
-        if y < 0 {
-            return wrapping_sub_u32(x, m);
-        }
-        return wrapping_add_u32(x, m);
-    }
-    if y < 0 {
-        return wrapping_add_u32(x, m);
-    }
-    wrapping_sub_u32(x, m)
+    let y = i32::from(y);
+    let signed = if b == 0 { y } else { -y };
+    x.wrapping_add_signed(signed)
 }
 
 // Every bin is set; column i is that of position i.
@@ -38,11 +22,9 @@ pub(crate) fn bin_positions(bins: &mut [u32], cols: &[u32], word: &[u8], soft: &
     requires { (length word.now ≡ length soft.now) × (length cols.now ≡ length soft.now) × (All (λ (c : ℕ). c < length bins.old) cols.now) × (some out_of_range soft.now ≡ false) }
     ensures { bins.new ≡ map wrapped (binned cols.now (signed_by (taken soft.now) word.now) (replicate (length bins.old) (pos 0))) }
 {
-    fill_words(bins, 0);
-    let mut i = 0;
-    while i < soft.len() {
-        let c = wide(cols[i]);
+    bins.fill(0);
+    for i in 0..soft.len() {
+        let c = cols[i] as usize;
         bins[c] = add_signed(bins[c], taken_at(soft, i), word[i]);
-        i += 1;
     }
 }

@@ -2,21 +2,17 @@
 ghost use Rattle.std.specs.Prelude.{◌≡◌, ◌+◌, ◌/◌, ◌^◌, List, map, length, ℤ};
 ghost use Rattle.correlations.specs.Folding.{wrapped, crossed, folded};
 
-use std::num::{wrapping_add_u32, wrapping_sub_u32};
-
 // The halves v and w become v + w and v - w.
 fn cross_halves(s: &mut [u32], h: usize)
     requires { length s.old ≡ h + h }
     ensures { (zs : List ℤ) → s.old ≡ map wrapped zs → s.new ≡ map wrapped (crossed h zs) }
 {
-    let mut i = 0;
-    while i < h {
+    for i in 0..h {
         let j = h + i;
         let x = s[i];
         let y = s[j];
-        s[i] = wrapping_add_u32(x, y);
-        s[j] = wrapping_sub_u32(x, y);
-        i += 1;
+        s[i] = x.wrapping_add(y);
+        s[j] = x.wrapping_sub(y);
     }
 }
 
@@ -29,14 +25,14 @@ fn fold_four(s: &mut [u32])
     let y = s[1];
     let z = s[2];
     let w = s[3];
-    let a = wrapping_add_u32(x, z);
-    let b = wrapping_add_u32(y, w);
-    let c = wrapping_sub_u32(x, z);
-    let d = wrapping_sub_u32(y, w);
-    s[0] = wrapping_add_u32(a, b);
-    s[1] = wrapping_sub_u32(a, b);
-    s[2] = wrapping_add_u32(c, d);
-    s[3] = wrapping_sub_u32(c, d);
+    let a = x.wrapping_add(z);
+    let b = y.wrapping_add(w);
+    let c = x.wrapping_sub(z);
+    let d = y.wrapping_sub(w);
+    s[0] = a.wrapping_add(b);
+    s[1] = a.wrapping_sub(b);
+    s[2] = c.wrapping_add(d);
+    s[3] = c.wrapping_sub(d);
 }
 
 // 2 ^ r bins; half of them is h.
@@ -52,6 +48,7 @@ pub(crate) fn fold(s: &mut [u32], r: u32, h: usize)
         return;
     }
     cross_halves(s, h);
-    fold(&mut s[..h], r - 1, h / 2);
-    fold(&mut s[h..], r - 1, h / 2);
+    let (v, w) = s.split_at_mut(h);
+    fold(v, r - 1, h / 2);
+    fold(w, r - 1, h / 2);
 }

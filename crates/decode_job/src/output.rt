@@ -5,7 +5,8 @@ ghost use Rattle.decode_job.specs.ProgramOutput.{program_output};
 ghost use Rattle.decode_job.specs.Records.{record_output};
 
 use block_output::write_block;
-use job::{Job, read_job};
+use job::read_job;
+use refusals::Refusal;
 use row_text::write_refused;
 
 // The output for a record of a length that the program takes.
@@ -16,12 +17,9 @@ fn write_record(input: &[u8], out: &mut [u8]) -> usize
     let mut map = [0u8; 128];
     let mut soft = [0i16; 1024];
     let mut pairs = [0u8; 1024];
-    let read = read_job(input, &mut map, &mut soft, &mut pairs);
-    match read {
-        Job::Refused(k) => write_refused(k, out),
-        Job::Fields(m, arikan, l, p, frame, count) => write_block(
-            m, arikan, l, p, frame, count, &map, &pairs, &soft, out,
-        ),
+    match read_job(input, &mut map, &mut soft, &mut pairs) {
+        Ok(job) => write_block(job, &map, &pairs, &soft, out),
+        Err(refusal) => write_refused(refusal.number(), out),
     }
 }
 
@@ -31,7 +29,7 @@ pub(crate) fn write_output(input: &[u8], out: &mut [u8]) -> usize
     ensures { Begins (program_output input.now) out.old result out.new }
 {
     if input.len() > 4096 {
-        return write_refused(13, out);
+        return write_refused(Refusal::RecordLength.number(), out);
     }
     write_record(input, out)
 }

@@ -1,18 +1,21 @@
 // A block: decoded, and printed.
-ghost use Rattle.std.specs.Prelude.{◌≡◌, ◌≤◌, length};
+ghost use Rattle.std.specs.Prelude.{◌≡◌, ◌≤◌, ◌<◌, length};
 
+use crate::dirty::full_of;
+use crate::left::print_left;
 use crate::lines::print_rows;
 use crate::print::{print_byte, print_named, print_refused, print_signed};
-use crate::{dirty, left};
-use code::size;
+use code::{Code, size};
 use decoder::{Decoded, decode};
+use job::Job;
+use refusals::Refusal;
 
-fn print_fields(m: u32, l: u32, p: u32, frame: u32) {
+fn print_fields(job: Job) {
     io::write_all(1, b"record");
-    print_named(b'm', m);
-    print_named(b'l', l);
-    print_named(b'p', p);
-    print_named(b'f', frame);
+    print_named(b'm', job.m);
+    print_named(b'l', job.list_size);
+    print_named(b'p', job.stop);
+    print_named(b'f', job.frame);
     print_byte(b'\n');
 }
 
@@ -23,63 +26,49 @@ fn print_ceiling(ceiling: i32) {
 }
 
 // The ceiling or the refusal is printed. Returns how many rows there are to print.
-fn row_count(decoded: Decoded) -> usize
+fn row_count(answer: Result<Decoded, Refusal>) -> usize
     ensures { result ≤ 32 }
 {
-    match decoded {
-        Decoded::Refused(k) => {
-            print_refused(k);
-            0
+    match answer {
+        Ok(decoded) => {
+            print_ceiling(decoded.ceiling);
+            decoded.rows.min(32) as usize
         }
-        Decoded::Rows(rows, ceiling) => {
-            print_ceiling(ceiling);
-            if rows > 32 {
-                return 32;
-            }
-            rows as usize
+        Err(refusal) => {
+            print_refused(refusal);
+            0
         }
     }
 }
 
 fn print_outputs(rows: usize, n: usize, inputs: &[u8], words: &[u8], scores: &[i32])
-    requires { (rows ≤ 32) × (n ≤ 1024) × (length inputs.now ≡ 32768) × (length words.now ≡ 32768) × (length scores.now ≡ 32) }
+    requires { (rows ≤ 32) × (0 < n) × (n ≤ 1024) }
 {
-    let from = print_rows(rows, n, inputs, words, scores);
+    print_rows(rows, n, inputs, words, scores);
+    let from = rows * n;
     io::write_all(1, b"not 0 behind the rows");
-    left::print_bytes(inputs, from);
-    left::print_bytes(words, from);
-    left::print_scores(scores, rows);
+    print_left(inputs, from);
+    print_left(words, from);
+    print_left(scores, rows);
 }
 
 fn print_tables(numbers: &[u32], bytes: &[u8]) {
     io::write_all(1, b", in the tables");
-    left::print_numbers(numbers);
-    left::print_bytes(bytes, 0);
+    print_left(numbers, 0);
+    print_left(bytes, 0);
     print_byte(b'\n');
 }
 
-fn decode_block(
-    m: u32,
-    arikan: bool,
-    n: usize,
-    l: u32,
-    p: u32,
-    map: &[u8],
-    pairs: &[u8],
-    soft: &[i16],
-)
-    requires { n ≤ 1024 }
+fn decode_block(code: Code, n: usize, l: u32, p: u32, soft: &[i16])
+    requires { (0 < n) × (n ≤ 1024) }
 {
-    let mut numbers = dirty::numbers();
-    let mut bytes = dirty::bytes();
-    let mut inputs = dirty::rows();
-    let mut words = dirty::rows();
-    let mut scores = dirty::scores();
-    let decoded = decode(
-        m,
-        arikan,
-        map,
-        pairs,
+    let mut numbers: [u32; 1048576] = full_of(2863311530);
+    let mut bytes: [u8; 139264] = full_of(170);
+    let mut inputs: [u8; 32768] = full_of(170);
+    let mut words: [u8; 32768] = full_of(170);
+    let mut scores: [i32; 32] = full_of(-1);
+    let answer = decode(
+        code,
         l,
         p,
         soft,
@@ -89,34 +78,25 @@ fn decode_block(
         &mut words,
         &mut scores,
     );
-    let rows = row_count(decoded);
+    let rows = row_count(answer);
     print_outputs(rows, n, &inputs, &words, &scores);
     print_tables(&numbers, &bytes);
 }
 
-// The frozen map, `count` pairs and the soft values stand at the front of their slices.
-pub(crate) fn decode_fields(
-    m: u32,
-    arikan: bool,
-    l: u32,
-    p: u32,
-    frame: u32,
-    count: u32,
-    map: &[u8],
-    pairs: &[u8],
-    soft: &[i16],
-)
+// The frozen map, the record's pairs and the soft values stand at the front of their slices.
+pub(crate) fn decode_fields(job: Job, map: &[u8], pairs: &[u8], soft: &[i16])
     requires { (length map.now ≡ 128) × (length pairs.now ≡ 1024) × (length soft.now ≡ 1024) }
 {
-    print_fields(m, l, p, frame);
-    if m > 10 {
+    print_fields(job);
+    if job.m > 10 || job.pairs > 256 {
         return;
     }
-    if count > 256 {
-        return;
-    }
-    let n = size(m);
-    let k = (n + 7) / 8;
-    let q = 4 * (count as usize);
-    decode_block(m, arikan, n, l, p, &map[..k], &pairs[..q], &soft[..n]);
+    let n = size(job.m);
+    let code = Code {
+        m: job.m,
+        arikan: job.arikan,
+        map: &map[..(n + 7) / 8],
+        pairs: &pairs[..4 * job.pairs as usize],
+    };
+    decode_block(code, n, job.list_size, job.stop, &soft[..n]);
 }

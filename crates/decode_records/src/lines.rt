@@ -1,40 +1,23 @@
 // The rows of a decoded block, printed.
-ghost use Rattle.std.specs.Prelude.{◌≡◌, ◌+◌, ◌≤◌, ◌<◌, length};
+ghost use Rattle.std.specs.Prelude.{◌<◌};
 
 use crate::print::{print_bits, print_byte, print_signed};
 
-// The bits of the row that begins at a place, and of its word.
-fn print_row(from: usize, n: usize, inputs: &[u8], words: &[u8])
-    requires { (from + n ≤ length inputs.now) × (from + n ≤ length words.now) }
-{
-    print_bits(inputs, from, n);
-    print_bits(words, from, n);
-    print_byte(b'\n');
-}
-
-fn print_rank(rank: usize, score: i32) {
+fn print_row(rank: usize, score: i32, input: &[u8], word: &[u8]) {
     io::print_decimal(1, rank as u64);
     print_byte(b' ');
     print_signed(score);
+    print_bits(input);
+    print_bits(word);
+    print_byte(b'\n');
 }
 
-// A line for each row. Returns the place behind the last.
-pub(crate) fn print_rows(
-    rows: usize,
-    n: usize,
-    inputs: &[u8],
-    words: &[u8],
-    scores: &[i32],
-) -> usize
-    requires { (rows ≤ 32) × (n ≤ 1024) × (length inputs.now ≡ 32768) × (length words.now ≡ 32768) × (length scores.now ≡ 32) }
+// A line for each row, of n bits.
+pub(crate) fn print_rows(rows: usize, n: usize, inputs: &[u8], words: &[u8], scores: &[i32])
+    requires { 0 < n }
 {
-    let mut from = 0;
-    let mut rank = 0;
-    while rank < rows {
-        print_rank(rank, scores[rank]);
-        print_row(from, n, inputs, words);
-        from += n;
-        rank += 1;
+    let bits = inputs.chunks_exact(n).zip(words.chunks_exact(n));
+    for (rank, (score, (input, word))) in scores.iter().take(rows).zip(bits).enumerate() {
+        print_row(rank, *score, input, word);
     }
-    from
 }

@@ -1,5 +1,5 @@
 // Numbers and bits, printed.
-ghost use Rattle.std.specs.Prelude.{◌+◌, ◌*◌, ◌≤◌, length};
+use refusals::Refusal;
 
 // A byte of text.
 pub(crate) fn print_byte(x: u8) {
@@ -15,9 +15,9 @@ pub(crate) fn print_named(letter: u8, x: u32) {
     io::print_decimal(1, x as u64);
 }
 
-pub(crate) fn print_refused(k: u32) {
+pub(crate) fn print_refused(refusal: Refusal) {
     io::write_all(1, b"refused ");
-    io::print_decimal(1, k as u64);
+    io::print_decimal(1, refusal.number() as u64);
     print_byte(b'\n');
 }
 
@@ -35,16 +35,11 @@ fn digit(a: u8, b: u8, c: u8, d: u8) -> u64 {
     8 * (a as u64) + 4 * (b as u64) + 2 * (c as u64) + d as u64
 }
 
-// The bits from a place on in hexadecimal, a space before them.
-pub(crate) fn print_bits(bits: &[u8], from: usize, n: usize)
-    requires { from + n ≤ length bits.now }
-{
+// Bits in hexadecimal, a space before them.
+pub(crate) fn print_bits(bits: &[u8]) {
     print_byte(b' ');
-    let to = from + n;
-    let mut at = from;
-    while to - at >= 4 {
-        let x = digit(bits[at], bits[at + 1], bits[at + 2], bits[at + 3]);
+    for four in bits.chunks_exact(4) {
+        let x = digit(four[0], four[1], four[2], four[3]);
         io::print_hex(1, x, 1);
-        at += 4;
     }
 }

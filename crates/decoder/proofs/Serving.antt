@@ -1,12 +1,12 @@
 -- The sizes of a call that is served, and what its parts ask for.
 use mathlib.Core.Path.{◌≡◌, sym, ap, ap₂, subst, ◌∙◌}
-use mathlib.Core.Bool.{Bool}
 use mathlib.Core.List.{List}
 use Prim.Native.Nat.{ℕ, suc, ◌+◌, ◌-◌, ◌*◌, ◌/◌, ◌≤◌, ◌^◌}
 use native.Mathlib.Omega.{arith}
 use native.Mathlib.Nat.{mul_assoc, mul_comm, add-mul, mul-le-mul, mul-le-mul_left, le-mul_of_pos_right, add-zero}
 use lib.ListN.{length}
 use lib.IntN.{ℤ}
+use Rattle.spec.specs.Code.{Code, size}
 use Rattle.spec.specs.Refusals.{Room}
 use Rattle.laws.specs.Accepted.{Ruled, size_small}
 use Rattle.laws.specs.MapBits.{enough_bits}
@@ -17,14 +17,14 @@ use Rattle.block_rows.specs.BlockRows.{BitsFit}
 use Rattle.positions.specs.Running.{BlockSizes, RunFits}
 use Rattle.decoder.specs.Serving.{ServeFits}
 
-module _ (m : ℕ) (arikan : Bool) (l p n h : ℕ) (map pairs : List ℕ) (soft : List ℤ) (r : Room) (f : ServeFits m arikan l p n h map pairs soft r) where
-  pub exponent : m ≡ suc (suc (m - 2))
+module _ (c : Code) (l p n h : ℕ) (soft : List ℤ) (r : Room) (f : ServeFits c l p n h soft r) where
+  pub exponent : c.m ≡ suc (suc (c.m - 2))
   exponent = omega (arith, f.accepts.low)
 
-  pub whole : n ≡ 2 ^ suc (suc (m - 2))
+  pub whole : n ≡ 2 ^ suc (suc (c.m - 2))
   whole = f.size_is ∙ ap (λ (k : ℕ). 2 ^ k) exponent
 
-  halved : n / 2 ≡ 2 ^ suc (m - 2)
+  halved : n / 2 ≡ 2 ^ suc (c.m - 2)
   halved = omega (arith, whole)
 
   pub twice : n * l ≡ 2 * h
@@ -35,7 +35,7 @@ module _ (m : ℕ) (arikan : Bool) (l p n h : ℕ) (map pairs : List ℕ) (soft 
   pub small : n ≤ 1024
   small = omega (arith, size_small f.accepts, f.size_is)
 
-  sizes_of : BlockSizes (m - 2) l h n
+  sizes_of : BlockSizes (c.m - 2) l h n
   unfolding slot_start
   sizes_of = record {
     deepest = omega (arith, f.accepts.high);
@@ -49,22 +49,22 @@ module _ (m : ℕ) (arikan : Bool) (l p n h : ℕ) (map pairs : List ℕ) (soft 
   wide : n ≤ n * l
   wide = le-mul_of_pos_right n f.some_path
 
-  words_there : 16 * (h + 2 ^ (m - 2)) ≤ r.numbers
+  words_there : 16 * (h + 2 ^ (c.m - 2)) ≤ r.numbers
   words_there = omega (arith, whole, twice, wide, f.numbers)
 
   -- the bits, the history up to any stop position and 32 bytes more
   bytes_there : (k : ℕ) → k ≤ n → 3 * h + l * k + 32 ≤ r.bytes
   bytes_there k hk =
       let a : l * k ≤ l * n = mul-le-mul_left l hk in
-      let c : l * n ≡ n * l = mul_comm l n in
+      let q : l * n ≡ n * l = mul_comm l n in
       let d : (4 * n + 256) * l ≡ 4 * n * l + 256 * l = add-mul (4 * n) 256 l in
       let e : 4 * n * l ≡ 4 * (n * l) = mul_assoc 4 n l in
       omega (arith, twice, f.bytes, f.some_path)
 
-  flags_there : n ≤ 8 * length map
-  flags_there = omega (arith, enough_bits (2 ^ m) map f.accepts.bytes, f.size_is)
+  flags_there : n ≤ 8 * length c.map
+  flags_there = omega (arith, enough_bits (size c) c.map f.accepts.bytes, f.size_is)
 
-  pub start_fits : (t : List ℕ) → r.numbers ≤ length t → StartSize (m - 2) (n / 4) l h t soft
+  pub start_fits : (t : List ℕ) → r.numbers ≤ length t → StartSize (c.m - 2) (n / 4) l h t soft
   start_fits t e = record {
     deepest = sizes_of.deepest;
     bottom = omega (arith, whole);
@@ -80,12 +80,12 @@ module _ (m : ℕ) (arikan : Bool) (l p n h : ℕ) (map pairs : List ℕ) (soft 
   -- a row of n bytes for each path behind the history
   rows_there : 3 * h + l * n + n * l ≤ r.bytes
   rows_there =
-      let c : l * n ≡ n * l = mul_comm l n in
+      let q : l * n ≡ n * l = mul_comm l n in
       let d : (4 * n + 256) * l ≡ 4 * n * l + 256 * l = add-mul (4 * n) 256 l in
       let e : 4 * n * l ≡ 4 * (n * l) = mul_assoc 4 n l in
       omega (arith, twice, f.bytes)
 
-  pub run_fits : (t b rows : ℕ) → r.numbers ≤ t → r.bytes ≤ b → r.inputs ≤ rows → RunFits (m - 2) l h n p t b rows map pairs
+  pub run_fits : (t b rows : ℕ) → r.numbers ≤ t → r.bytes ≤ b → r.inputs ≤ rows → RunFits (c.m - 2) l h n p t b rows c.map c.pairs
   run_fits t b rows et eb er = record {
     sizes = sizes_of;
     short = small;
@@ -95,10 +95,10 @@ module _ (m : ℕ) (arikan : Bool) (l p n h : ℕ) (map pairs : List ℕ) (soft 
     room = omega (arith, rows_there);
     wide = omega (arith, f.inputs);
     flags = flags_there;
-    ruled = subst (λ (fs : List ℕ). Ruled fs pairs) (sym (flags_are m n arikan map pairs f.size_is)) f.accepts.ruled;
+    ruled = subst (λ (fs : List ℕ). Ruled fs c.pairs) (sym (flags_are c.m n c.arikan c.map c.pairs f.size_is)) f.accepts.ruled;
   }
 
-  pub bits_fit : (count bytes : ℕ) → count ≤ l → r.bytes ≤ bytes → BitsFit m l p n h count r.inputs r.words bytes
+  pub bits_fit : (count bytes : ℕ) → count ≤ l → r.bytes ≤ bytes → BitsFit c.m l p n h count r.inputs r.words bytes
   bits_fit count bytes few e = record {
     least = f.accepts.low;
     most = f.accepts.high;

@@ -1,8 +1,10 @@
 -- The decoder's answer, as the rules number it.
+use Rattle.std.specs.Prelude.{Result, Ok, Err}
 use Rattle.spec.specs.Outcome.{Answer, decoded, refused_by}
+use Rattle.refusals.specs.declared.Refusal.{Refusal}
+use Rattle.refusals.specs.Number.{number_of}
 use Rattle.decoder.specs.declared.call.Decoded.{Decoded}
-use Rattle.decoder.specs.declared.call.Decoded.TheVariants.{Rows, Refused}
 
-abbrev pub answer_of : Decoded → Answer
-answer_of (Rows r top) = decoded r top
-answer_of (Refused k) = refused_by k
+abbrev pub answer_of : Result Decoded Refusal → Answer
+answer_of (Ok d) = decoded d.rows d.ceiling
+answer_of (Err e) = refused_by (number_of e)

@@ -1,27 +1,25 @@
 // The decoder's call: refused, or served.
 ghost use Rattle.std.specs.Prelude.{◌≡◌};
-ghost use Rattle.spec.specs.Code.{code};
 ghost use Rattle.spec.specs.Outcome.{decoding, lent, decode_outcome};
+ghost use Rattle.code.specs.Codes.{code_of};
 ghost use Rattle.decoder.specs.Answers.{answer_of};
 
 use crate::serve::serve;
-use code::size;
-use decode_refusals::decode_refusal;
+use code::{Code, size};
+use decode_refusals::check_decode;
+use refusals::{Refusal, Room};
 use slices::times;
 
-// How many rows there are and the ceiling, or the refusal number.
-#[derive(Drop)]
-pub enum Decoded {
-    Rows(u32, i32),
-    Refused(u32),
+// How many rows there are, and the ceiling.
+#[derive(Clone, Copy, Debug, PartialEq, Eq)]
+pub struct Decoded {
+    pub rows: u32,
+    pub ceiling: i32,
 }
 
 // The rows of the paper decoder at stop position p for list size l, by rank: inputs, words and scores, 0 behind them; and its ceiling.
 pub fn decode(
-    m: u32,
-    arikan: bool,
-    map: &[u8],
-    pairs: &[u8],
+    code: Code,
     l: u32,
     p: u32,
     soft: &[i16],
@@ -30,30 +28,15 @@ pub fn decode(
     inputs: &mut [u8],
     words: &mut [u8],
     scores: &mut [i32],
-) -> Decoded
+) -> Result<Decoded, Refusal>
     ensures { decoding (answer_of result) (lent numbers.new bytes.new inputs.new words.new scores.new)
-        ≡ decode_outcome (code m arikan map.now pairs.now) l p soft.now (lent numbers.old bytes.old inputs.old words.old scores.old) }
+        ≡ decode_outcome (code_of code.entry) l p soft.now (lent numbers.old bytes.old inputs.old words.old scores.old) }
 {
-    let refusal = decode_refusal(
-        m,
-        map,
-        pairs,
-        l,
-        p,
-        soft,
-        numbers.len(),
-        bytes.len(),
-        inputs.len(),
-        words.len(),
-        scores.len(),
-    );
-    if refusal != 0 {
-        return Decoded::Refused(refusal);
-    }
-    let n = size(m);
+    let room = Room::of(numbers, bytes, inputs, words, scores);
+    check_decode(code, l, p, soft, room)?;
+    let n = size(code.m);
     let h = times(n / 2, l as usize);
-    serve(
-        m, arikan, map, pairs, l as usize, p as usize, soft, numbers, bytes, inputs, words, scores,
-        n, h,
-    )
+    Ok(serve(
+        code, l as usize, p as usize, soft, numbers, bytes, inputs, words, scores, n, h,
+    ))
 }

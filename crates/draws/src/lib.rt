@@ -5,6 +5,7 @@ ghost use Rattle.std.specs.Prelude.{◌≡◌, ◌%◌, length};
 ghost use Rattle.spec.specs.TestLoad.{draw, draws, after_draws, drawn_bits, noisy, noisy_word};
 
 // A draw: the new state.
+#[tactic(auto, unfolding(spec::specs::TestLoad::draw))]
 fn next_draw(s: u32) -> u32
     ensures { result ≡ draw s }
 {
@@ -25,11 +26,9 @@ pub fn draw_bits(s: u32, bits: &mut [u8]) -> u32
         × (bits.new ≡ drawn_bits (length bits.old) s) }
 {
     let mut state = s;
-    let mut i = 0;
-    while i < bits.len() {
+    for bit in bits.iter_mut() {
         state = next_draw(state);
-        bits[i] = low_bit(state);
-        i += 1;
+        *bit = low_bit(state);
     }
     state
 }
@@ -51,11 +50,9 @@ pub fn draw_soft(s: u32, word: &[u8], soft: &mut [i16]) -> u32
         × (soft.new ≡ noisy_word word.now (draws (length word.now) s)) }
 {
     let mut state = s;
-    let mut i = 0;
-    while i < word.len() {
+    for (i, bit) in word.iter().enumerate() {
         state = next_draw(state);
-        soft[i] = noisy_value(word[i], state);
-        i += 1;
+        soft[i] = noisy_value(*bit, state);
     }
     state
 }

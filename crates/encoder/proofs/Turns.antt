@@ -59,7 +59,7 @@ record Summed (map pairs fs p out : List ℕ) (i : ℕ) : Type 0 where
   so_far : (m : ℕ) (arikan : Bool) → filled (code m arikan map pairs) fs p [] ≡ filled (code m arikan map pairs) (drop i fs) (drop j p) (take i out)
 
 head_is : {x y : ℕ} {l r : List ℕ} → x ∷ l ≡ y ∷ r → (x ≡ y) × (l ≡ r)
-head_is e = (ap (λ (l : List ℕ). get_or l 0 0) e, ap (drop 1) e)
+head_is e = (cc, cc)
 
 module _ {map pairs fs p out : List ℕ} (e : length out ≡ length fs) where
   -- a position that has no pair has its bit

@@ -14,15 +14,13 @@ fn spread_payload(map: &[u8], payload: &[u8], input: &mut [u8])
     ensures { input.new ≡ spread (flags_of (length input.old) map.now) payload.now }
 {
     let mut j = 0;
-    let mut i = 0;
-    while i < input.len() {
+    for (i, bit) in input.iter_mut().enumerate() {
         if flag(map, i) == 0 {
-            input[i] = payload[j];
+            *bit = payload[j];
             j += 1;
         } else {
-            input[i] = 0;
+            *bit = 0;
         }
-        i += 1;
     }
 }
 
@@ -35,6 +33,7 @@ pub fn fill_input(map: &[u8], pairs: &[u8], payload: &[u8], input: &mut [u8])
         → input.new ≡ input_for (code m arikan map.now pairs.now) payload.now }
 {
     spread_payload(map, payload, input);
+    // Not a `for`: how far a turn goes, from one run of pairs to the next, is in the pairs.
     let mut at = 0;
     while at < pairs.len() {
         let f = named(pairs, at);

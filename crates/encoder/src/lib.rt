@@ -3,61 +3,48 @@
 
 mod fill;
 
-ghost use Rattle.std.specs.Prelude.{Bool, ◌≡◌, ◌^◌, length};
-ghost use Rattle.spec.specs.Code.{code, payload_size, encoded};
+ghost use Rattle.std.specs.Prelude.{◌≡◌, ◌^◌, length};
+ghost use Rattle.spec.specs.Code.{payload_size, encoded};
 ghost use Rattle.spec.specs.Faults.{first};
 ghost use Rattle.spec.specs.Outcome.{written, encode_outcome};
+ghost use Rattle.refusals.specs.Number.{refused};
+ghost use Rattle.code.specs.Codes.{code_of};
 ghost use Rattle.code.specs.Given.{Given, given_faults};
 
-use code::{bit_refusal, code_refusal, payload_size, size};
+use code::{Code, check_bits, size};
 pub use fill::fill_input;
-use slices::fill_bytes;
+use refusals::Refusal;
+use slices::fill_from;
 use transform::transform_word;
 
-// Refusals 1, 2, 3, 15, 6 and 11, or 0.
-fn payload_refusal(m: u32, map: &[u8], pairs: &[u8], payload: &[u8]) -> u32
-    ensures { (arikan : Bool) → result ≡ first (given_faults (code m arikan map.now pairs.now)
-        (payload_size (code m arikan map.now pairs.now)) payload.now) }
+// Refusals 1, 2, 3, 15, 6 and 11.
+fn check_payload(code: Code<'_>, payload: &[u8]) -> Result<(), Refusal>
+    ensures { refused result ≡ first (given_faults (code_of code.entry) (payload_size (code_of code.entry)) payload.now) }
 {
-    let code = code_refusal(m, map, pairs);
-    if code != 0 {
-        return code;
-    }
-    let k = payload_size(m, map);
-    bit_refusal(k, payload)
+    code.check()?;
+    check_bits(code.payload_size(), payload)
 }
 
 // The code word of a payload, in a slice of n bytes.
-pub fn write_word(m: u32, arikan: bool, map: &[u8], pairs: &[u8], payload: &[u8], word: &mut [u8])
-    requires { (length word.old ≡ 2 ^ m)
-        × (Given (code m arikan map.now pairs.now) (payload_size (code m arikan map.now pairs.now)) payload.now) }
-    ensures { word.new ≡ encoded (code m arikan map.now pairs.now) payload.now }
+pub fn write_word(code: Code<'_>, payload: &[u8], word: &mut [u8])
+    requires { (length word.old ≡ 2 ^ code.m)
+        × (Given (code_of code) (payload_size (code_of code)) payload.now) }
+    ensures { word.new ≡ encoded (code_of code.entry) payload.now }
 {
-    fill_input(map, pairs, payload, word);
-    transform_word(word, m, arikan);
+    fill_input(code.map, code.pairs, payload, word);
+    transform_word(word, code.m, code.arikan);
 }
 
-// 0, with the code word in `word` and 0 behind it, or the refusal number.
-pub fn encode(
-    m: u32,
-    arikan: bool,
-    map: &[u8],
-    pairs: &[u8],
-    payload: &[u8],
-    word: &mut [u8],
-) -> u32
-    ensures { written result word.new
-        ≡ encode_outcome (code m arikan map.now pairs.now) payload.now word.old }
+// The code word in `word` and 0 behind it. A call that is refused writes nowhere.
+pub fn encode(code: Code<'_>, payload: &[u8], word: &mut [u8]) -> Result<(), Refusal>
+    ensures { written (refused result) word.new ≡ encode_outcome (code_of code.entry) payload.now word.old }
 {
-    let refusal = payload_refusal(m, map, pairs, payload);
-    if refusal != 0 {
-        return refusal;
-    }
-    let n = size(m);
+    check_payload(code, payload)?;
+    let n = size(code.m);
     if word.len() < n {
-        return 10;
+        return Err(Refusal::Room);
     }
-    write_word(m, arikan, map, pairs, payload, &mut word[..n]);
-    fill_bytes(word, n);
-    0
+    write_word(code, payload, &mut word[..n]);
+    fill_from(word, n, 0);
+    Ok(())
 }

@@ -15,13 +15,11 @@ pub(crate) fn gather_payload(map: &[u8], input: &[u8], payload: &mut [u8])
         ≡ gathered (flags_of (length input.now) map.now) input.now }
 {
     let mut j = 0;
-    let mut i = 0;
-    while i < input.len() {
+    for (i, bit) in input.iter().enumerate() {
         if flag(map, i) == 0 {
-            payload[j] = input[i];
+            payload[j] = *bit;
             j += 1;
         }
-        i += 1;
     }
 }
 
@@ -32,14 +30,10 @@ fn frozen_bit_set(map: &[u8], input: &[u8], from: usize, to: usize) -> bool
         → broken_from c input.now from (drop from (flags_of (length input.now) map.now))
         ≡ (result || broken_from c input.now to (drop to (flags_of (length input.now) map.now))) }
 {
-    let mut i = from;
-    while i < to {
-        if flag(map, i) != 0 {
-            if input[i] != 0 {
-                return true;
-            }
+    for i in from..to {
+        if flag(map, i) != 0 && input[i] != 0 {
+            return true;
         }
-        i += 1;
     }
     false
 }
@@ -61,10 +55,7 @@ fn run_broken(
         ≡ (result || broken_from (code m arikan map.now pairs.now) input.now (f + 1)
         (drop (f + 1) (flags_of (length input.now) map.now))) }
 {
-    if frozen_bit_set(map, input, from, f) {
-        return true;
-    }
-    input[f] != frozen_bit(pairs, at, to, f, input)
+    frozen_bit_set(map, input, from, f) || input[f] != frozen_bit(pairs, at, to, f, input)
 }
 
 // A frozen bit of an input is not the sum that its rule gives: run by run of the pairs, and behind the last.
@@ -74,6 +65,7 @@ pub(crate) fn breaks_rule(map: &[u8], pairs: &[u8], input: &[u8]) -> bool
         (flags_of (length input.now) map.now) }
 {
     let mut i = 0;
+    // Not a `for`: how far a turn goes, from one run of pairs to the next, is in the pairs.
     let mut at = 0;
     while at < pairs.len() {
         let f = named(pairs, at);

@@ -3,32 +3,29 @@
 
 mod gather;
 
-ghost use Rattle.std.specs.Prelude.{Bool, ◌≡◌, ◌^◌, length};
+ghost use Rattle.std.specs.Prelude.{◌≡◌, ◌^◌, length};
 ghost use Rattle.spec.specs.Transform.{inverse_by};
-ghost use Rattle.spec.specs.Code.{code};
 ghost use Rattle.spec.specs.Faults.{first};
 ghost use Rattle.spec.specs.Outcome.{written, extract_outcome};
 ghost use Rattle.laws.specs.Accepted.{Accepted};
+ghost use Rattle.refusals.specs.Number.{refused};
 ghost use Rattle.transform.specs.Word.{Word};
+ghost use Rattle.code.specs.Codes.{code_of};
 ghost use Rattle.code.specs.Given.{given_faults};
 ghost use Rattle.extractor.specs.ExtractCall.{payload_outcome};
 
-use code::{bit_refusal, code_refusal, payload_size, size};
+use code::{Code, check_bits, size};
 use gather::{breaks_rule, gather_payload};
-use slices::{copy, fill_bytes};
+use refusals::Refusal;
+use slices::fill_from;
 use transform::invert_word;
 
-// Refusals 1, 2, 3, 15, 6 and 11, or 0.
-fn word_refusal(m: u32, map: &[u8], pairs: &[u8], word: &[u8]) -> u32
-    ensures { (arikan : Bool)
-        → result ≡ first (given_faults (code m arikan map.now pairs.now) (2 ^ m) word.now) }
+// Refusals 1, 2, 3, 15, 6 and 11.
+fn check_word(code: Code<'_>, word: &[u8]) -> Result<(), Refusal>
+    ensures { refused result ≡ first (given_faults (code_of code.entry) (2 ^ code.entry.m) word.now) }
 {
-    let code = code_refusal(m, map, pairs);
-    if code != 0 {
-        return code;
-    }
-    let n = size(m);
-    bit_refusal(n, word)
+    code.check()?;
+    check_bits(size(code.m), word)
 }
 
 // The input of a word.
@@ -36,49 +33,36 @@ fn write_input(m: u32, arikan: bool, word: &[u8], input: &mut [u8])
     requires { (length input.old ≡ length word.now) × (Word m word.now) }
     ensures { input.new ≡ inverse_by arikan m word.now }
 {
-    copy(word, input);
+    input.copy_from_slice(word);
     invert_word(input, m, arikan);
 }
 
-// Refusals 12 and 10; else 0, with the payload of an input in `payload` and 0 behind it.
-fn write_payload(m: u32, map: &[u8], pairs: &[u8], input: &[u8], payload: &mut [u8]) -> u32
-    requires { ((arikan : Bool) → Accepted (code m arikan map.now pairs.now)) × (length input.now ≡ 2 ^ m) }
-    ensures { (arikan : Bool) → written result payload.new
-        ≡ payload_outcome (code m arikan map.now pairs.now) input.now payload.old }
+// Refusals 12 and 10; else the payload of an input in `payload` and 0 behind it.
+fn write_payload(code: Code<'_>, input: &[u8], payload: &mut [u8]) -> Result<(), Refusal>
+    requires { (Accepted (code_of code)) × (length input.now ≡ 2 ^ code.m) }
+    ensures { written (refused result) payload.new ≡ payload_outcome (code_of code.entry) input.now payload.old }
 {
-    let outside = breaks_rule(map, pairs, input);
-    let k = payload_size(m, map);
+    let outside = breaks_rule(code.map, code.pairs, input);
+    let k = code.payload_size();
     let short = payload.len() < k;
     if outside {
-        return 12;
+        return Err(Refusal::OutsideCode);
     }
     if short {
-        return 10;
+        return Err(Refusal::Room);
     }
-    gather_payload(map, input, &mut payload[..k]);
-    fill_bytes(payload, k);
-    0
+    gather_payload(code.map, input, &mut payload[..k]);
+    fill_from(payload, k, 0);
+    Ok(())
 }
 
-// 0, with the payload of a word in `payload` and 0 behind it, or the refusal number. A refused call writes nowhere, so the
-// input is worked out aside.
-pub fn extract(
-    m: u32,
-    arikan: bool,
-    map: &[u8],
-    pairs: &[u8],
-    word: &[u8],
-    payload: &mut [u8],
-) -> u32
-    ensures { written result payload.new
-        ≡ extract_outcome (code m arikan map.now pairs.now) word.now payload.old }
+// The payload of a word in `payload` and 0 behind it. A refused call writes nowhere, so the input is worked out aside.
+pub fn extract(code: Code<'_>, word: &[u8], payload: &mut [u8]) -> Result<(), Refusal>
+    ensures { written (refused result) payload.new ≡ extract_outcome (code_of code.entry) word.now payload.old }
 {
-    let refusal = word_refusal(m, map, pairs, word);
-    if refusal != 0 {
-        return refusal;
-    }
-    let n = size(m);
+    check_word(code, word)?;
+    let n = size(code.m);
     let mut input = [0u8; 1024];
-    write_input(m, arikan, word, &mut input[..n]);
-    write_payload(m, map, pairs, &input[..n], payload)
+    write_input(code.m, code.arikan, word, &mut input[..n]);
+    write_payload(code, &input[..n], payload)
 }

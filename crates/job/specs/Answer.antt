@@ -1,14 +1,18 @@
 -- What the reader's answers mean: the values and the number that 01 gives for each case.
-use Rattle.std.specs.Prelude.{cond, List, ℕ, ℤ}
+use Rattle.std.specs.Prelude.{cond, List, ℕ, ℤ, Result, Ok, Err}
 use Rattle.spec.specs.Record.{exponent, is_arikan, list_size, stop_position, frame_number, pair_count}
 use Rattle.spec.specs.Outcome as spec
 use Rattle.job.specs.declared.Job.{Job}
-use Rattle.job.specs.declared.Job.TheVariants.{Fields, Refused}
+use Rattle.refusals.specs.declared.Refusal.{Refusal}
+use Rattle.refusals.specs.Number.{number_of}
 use Rattle.job.specs.declared.host.JobFields.{JobFields}
 
-abbrev pub job_of : Job → spec.Job
-job_of (Fields m a l p f k) = spec.job m a l p f k
-job_of (Refused k) = spec.refused_job k
+abbrev pub said : Job → spec.Job
+said j = spec.job j.m j.arikan j.list_size j.stop j.frame j.pairs
+
+abbrev pub job_of : Result Job Refusal → spec.Job
+job_of (Ok j) = said j
+job_of (Err e) = spec.refused_job (number_of e)
 
 -- the fields of a record
 abbrev pub job_in : List ℕ → spec.Job

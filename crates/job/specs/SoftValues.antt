@@ -1,22 +1,20 @@
 -- The soft values of a record in a row, as they are taken: n of them from a place.
-use Rattle.std.specs.Prelude.{◌≡◌, length, get_or, ℤ, pos}
-use Rattle.std.proofs.Math.Path.{refl, ap}
+use Rattle.std.specs.Prelude.{◌≡◌, length, ℤ}
+use Rattle.std.proofs.Math.Path.{ap}
 use Rattle.std.proofs.Common.{◌∙◌}
 use mathlib.Core.List.{List, [], ◌∷◌, ◌++◌, map-append}
-use Prim.Native.Nat.{ℕ, zero, suc, ◌+◌, ◌*◌, ◌<◌}
+use Prim.Native.Nat.{ℕ, zero, suc, ◌+◌, ◌*◌}
 use native.Mathlib.Omega.{arith}
 use Rattle.spec.specs.Score.{saturated, taken}
 use Rattle.spec.specs.Record.{two_at, signed16, soft_from}
 use Rattle.laws.specs.Taken.{length_taken}
+use Rattle.job_fields.specs.SoftAt.{length_soft_from}
+-- the one at a position
+pub use Rattle.job_fields.specs.SoftAt.{soft_at_lem}
 
 module _ (s : List ℕ) where
-  values : (at n : ℕ) → length (soft_from s at n) ≡ n
-  unfolding soft_from
-  values at zero = refl
-  values at (suc n) = ap suc (values (at + 2) n)
-
   pub length_soft : (at n : ℕ) → length (taken (soft_from s at n)) ≡ n
-  length_soft at n = length_taken (soft_from s at n) ∙ values at n
+  length_soft at n = length_taken (soft_from s at n) ∙ length_soft_from s at n
 
   -- one more
   one_more : (at n : ℕ) → soft_from s at (suc n) ≡ soft_from s at n ++ (signed16 (two_at s (at + 2 * n)) ∷ [])
@@ -28,10 +26,3 @@ module _ (s : List ℕ) where
 
   pub soft_more : (at n : ℕ) → taken (soft_from s at (suc n)) ≡ taken (soft_from s at n) ++ (saturated (signed16 (two_at s (at + 2 * n))) ∷ [])
   soft_more at n = ap taken (one_more at n) ∙ map-append saturated (soft_from s at n) (signed16 (two_at s (at + 2 * n)) ∷ [])
-
-  -- the one at a place
-  pub soft_at_lem : (at n i : ℕ) → i < n → get_or (soft_from s at n) i (pos 0) ≡ signed16 (two_at s (at + 2 * i))
-  unfolding soft_from
-  soft_at_lem at zero i h = absurd (omega arith)
-  soft_at_lem at (suc n) zero h = let k : at + 2 * 0 ≡ at = omega arith in rw k
-  soft_at_lem at (suc n) (suc i) h = let k : at + 2 * suc i ≡ at + 2 + 2 * i = omega arith in rw k (soft_at_lem (at + 2) n i (omega arith))

@@ -1,9 +1,9 @@
-// The reader for a host that has no enum: the answer as seven numbers.
+// What the reader answers, for a host that has no enum: seven numbers.
 ghost use Rattle.std.specs.Prelude.{◌≡◌};
-ghost use Rattle.spec.specs.Outcome.{read_outcome};
-ghost use Rattle.job.specs.Answer.{job_of, fields_of, host_reading, for_host};
+ghost use Rattle.job.specs.Answer.{job_of, fields_of};
 
-use crate::{Job, read_job};
+use crate::Job;
+use refusals::Refusal;
 
 // 0 and the fields of a record that is read, `arikan` 1 where the transform is Arikan's and else 0; or the refusal number, and 0 in each
 // field.
@@ -19,44 +19,29 @@ pub struct JobFields {
     pub arikan: u32,
 }
 
-fn fields_for_host(job: Job) -> JobFields
-    ensures { result ≡ fields_of (job_of job) }
-{
-    match job {
-        Job::Fields(m, arikan, l, p, frame, count) => {
-            let bit = arikan as u32;
-            JobFields {
-                refusal: 0,
-                m: m,
-                list_size: l,
-                stop: p,
-                frame: frame,
-                pairs: count,
-                arikan: bit,
-            }
-        }
-        Job::Refused(k) => JobFields {
-            refusal: k,
-            m: 0,
-            list_size: 0,
-            stop: 0,
-            frame: 0,
-            pairs: 0,
-            arikan: 0,
-        },
-    }
-}
+impl From<Result<Job, Refusal>> for JobFields {
+    ghost from_gives = { λ answer told. told ≡ fields_of (job_of answer) };
 
-// read_job, answered by JobFields.
-pub fn read_job_fields(
-    bytes: &[u8],
-    map: &mut [u8],
-    soft: &mut [i16],
-    pairs: &mut [u8],
-) -> JobFields
-    ensures { host_reading result map.new soft.new pairs.new
-        ≡ for_host (read_outcome bytes.now map.old soft.old pairs.old) }
-{
-    let job = read_job(bytes, map, soft, pairs);
-    fields_for_host(job)
+    fn from(answer: Result<Job, Refusal>) -> JobFields {
+        match answer {
+            Ok(job) => JobFields {
+                refusal: 0,
+                m: job.m,
+                list_size: job.list_size,
+                stop: job.stop,
+                frame: job.frame,
+                pairs: job.pairs,
+                arikan: u32::from(job.arikan),
+            },
+            Err(refusal) => JobFields {
+                refusal: refusal.number(),
+                m: 0,
+                list_size: 0,
+                stop: 0,
+                frame: 0,
+                pairs: 0,
+                arikan: 0,
+            },
+        }
+    }
 }

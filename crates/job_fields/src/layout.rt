@@ -17,6 +17,19 @@ pub struct Layout {
     pub soft: usize,
 }
 
+impl Layout {
+    ghost use Rattle.std.specs.Prelude.{List, ℕ};
+    ghost use Rattle.spec.specs.Record.{is_arikan};
+    ghost use Rattle.job_fields.specs.Laid.{Laid};
+
+    // Bit 4 of the map of fields: the transform is Arikan's.
+    pub fn is_arikan(self) -> bool
+        ensures { (bytes : List ℕ) → Laid bytes self → result ≡ is_arikan bytes }
+    {
+        self.fields / 16 % 2 == 1
+    }
+}
+
 pub(crate) fn stop_at(fields: u32) -> usize
     ensures { (result ≡ stop_at fields) × (result ≤ 3) }
 {

@@ -6,5 +6,6 @@ mod options;
 mod parts;
 mod soft;
 
-pub use bits::{fields_byte, option_bits, pair_bit};
+pub use bits::{fields_byte, pair_bit};
+pub use options::Options;
 pub use parts::{put_head, put_rest};

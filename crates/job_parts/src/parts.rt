@@ -7,19 +7,20 @@ ghost use Rattle.spec.specs.Score.{taken};
 ghost use Rattle.spec.specs.JobWriter.{unless, unless_none};
 ghost use Rattle.place.specs.Put.{Put};
 
-use crate::options::put_options;
+use crate::options::Options;
 use crate::soft::put_soft;
 use numbers::{low_byte, put_low};
 use place::{put_byte, put_bytes};
 
 // Byte 0, m, and the fields that stand.
-pub fn put_head(out: &mut [u8], fields: u8, m: u32, n: u32, l: u32, p: u32, frame: u32) -> usize
+pub fn put_head(out: &mut [u8], fields: u8, m: u32, options: Options) -> usize
     requires { (m < 256) × (9 ≤ length out.old) }
-    ensures { Put 0 (head_of fields m (unless 4 l) (unless n p) (unless 0 frame)) out.old result out.new }
+    ensures { Put 0 (head_of fields m (unless 4 options.list_size) (unless options.n options.stop) (unless 0 options.frame))
+        out.old result out.new }
 {
     let a = put_byte(out, 0, fields);
     let b = put_byte(out, a, low_byte(m));
-    put_options(out, b, n, l, p, frame)
+    options.put(out, b)
 }
 
 // Where there are pairs: their count, and their bytes.

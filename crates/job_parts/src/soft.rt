@@ -9,23 +9,12 @@ ghost use Rattle.place.specs.Put.{Put};
 use numbers::put_low;
 use ranges::taken_at;
 
-// The 16 bits of a soft value in two's complement.
-fn sixteen_bits(y: i16) -> u32
-    ensures { result ≡ sixteen_bits y }
-{
-    if y < 0 {
-        return 65535 - ((-1 - y) as u32);
-    }
-    y as u32
-}
-
-// Those of the soft value of position i, as it is taken.
+// The 16 bits of the soft value of position i, as it is taken, in two's complement.
 fn taken_bits(soft: &[i16], i: usize) -> u32
     requires { (i < length soft.now) × (some out_of_range soft.now ≡ false) }
     ensures { result ≡ sixteen_bits (get_or (taken soft.now) i (pos 0)) }
 {
-    let y = taken_at(soft, i);
-    sixteen_bits(y)
+    u32::from(taken_at(soft, i).cast_unsigned())
 }
 
 // All soft values. Returns the place behind them.
@@ -35,11 +24,8 @@ pub(crate) fn put_soft(out: &mut [u8], at: usize, soft: &[i16]) -> usize
         × (result ≤ at + 2 * length soft.now) }
 {
     let mut next = at;
-    let mut i = 0;
-    while i < soft.len() {
-        let x = taken_bits(soft, i);
-        next = put_low(out, next, 2, x);
-        i += 1;
+    for i in 0..soft.len() {
+        next = put_low(out, next, 2, taken_bits(soft, i));
     }
     next
 }

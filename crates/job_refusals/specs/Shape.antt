@@ -1,12 +1,13 @@
 -- The shape of a record: what is known of it on the way to where its parts lie, and the conditions that are tested there.
-use Rattle.std.specs.Prelude.{◌≡◌, not, List, [], ◌∷◌, ℕ, ◌+◌, ◌*◌, ◌≤◌, ltb, eqb, length}
+use Rattle.std.specs.Prelude.{◌≡◌, Result, Ok, Err, not, List, [], ◌∷◌, ℕ, ◌+◌, ◌*◌, ◌≤◌, ltb, eqb, length}
 use Rattle.std.proofs.Common.{ltb-false}
 use Rattle.spec.specs.Faults.{Fault, fault, first}
-use Rattle.spec.specs.Record.{fields, exponent, positions, count_at, pairs_at, pair_count, soft_at, shape_faults}
-use Rattle.laws.specs.FirstFault.{First, Refuses, none, later, Numbered, end, next, inside_of, same_of}
-use Rattle.job_fields.specs.Laid.{Shaped, Laid}
-use Rattle.job_refusals.specs.declared.shape.Located.{Located}
-use Rattle.job_refusals.specs.declared.shape.Located.TheVariants.{At, Refused}
+use Rattle.spec.specs.Record.{fields, exponent, positions, pairs_at, pair_count, soft_at, shape_faults}
+use Rattle.laws.specs.FirstFault.{First, none, later, Numbered, end, next, inside_of, same_of}
+use Rattle.job_fields.specs.Laid.{Shaped}
+use Rattle.job_fields.specs.declared.record.JobRecord.{JobRecord}
+use Rattle.refusals.specs.declared.Refusal.{Refusal}
+use Rattle.refusals.specs.Number.{number_of}
 
 module _ (s : List ℕ) where
   -- the last conditions of shapeFaults: the length and the count
@@ -24,18 +25,10 @@ module _ (s : List ℕ) where
     pub low : 2 ≤ exponent s
     pub high : exponent s ≤ 10
 
-  -- then n is known, and where the frozen map ends
-  pub record Mapped (f m n ends : ℕ) : Type 0 where
-    pub headed : Headed f m
-    pub n_is : n ≡ positions s
-    pub small : n ≤ 1024
-    pub ends_at : ends ≡ count_at s
-    pub near : ends ≤ 137
-
-  -- an answer: where the parts lie, if none of the conditions applies, or the number of the first that does
-  abbrev pub Found : List Fault → Located → Type 0
-  Found fs (At at) = Laid s at × (0 ≡ first fs)
-  Found fs (Refused k) = Refuses fs k
+  -- an answer: the record with its layout, if none of the conditions applies, or the first that does
+  abbrev pub Found : List Fault → Result JobRecord Refusal → Type 0
+  Found fs (Ok r) = (r.bytes.now ≡ s) × (0 ≡ first fs)
+  Found fs (Err e) = number_of e ≡ first fs
 
   -- a record that no condition applies to, and the numbers of all
   pub shaped_of : First (shape_faults s) 0 → Shaped s

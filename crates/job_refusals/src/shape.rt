@@ -1,99 +1,78 @@
 // Where the parts of a record lie, or what its shape is refused for: its length, its map of fields, m and the count of its pairs.
-ghost use Rattle.std.specs.Prelude.{◌≡◌, ◌/◌, ◌%◌};
-ghost use Rattle.spec.specs.Record.{shape_faults};
-ghost use Rattle.job_refusals.specs.Shape.{length_faults, Headed, Mapped, Found};
+ghost use Rattle.std.specs.Prelude.{◌≡◌, ◌+◌, ◌*◌, ◌/◌, ◌%◌, ◌≤◌, ◌<◌, length};
+ghost use Rattle.spec.specs.Record.{if_present, two_at, shape_faults};
+ghost use Rattle.job_refusals.specs.Shape.{length_faults, Headed, Found};
 
 use code::size;
-use job_fields::{Layout, map_at, map_end};
+use job_fields::{JobRecord, Layout, map_at, map_end};
 use numbers::{two, wide};
+use refusals::Refusal;
 
-#[derive(Drop)]
-pub enum Located {
-    At(Layout),
-    Refused(u32),
-}
-
-// A record without pairs, whose frozen map ends at `end`: refusal 13.
-fn locate_plain(bytes: &[u8], fields: u32, m: u32, n: usize, end: usize) -> Located
-    requires { (Mapped bytes.now fields m n end) × (fields / 8 % 2 ≡ 0) }
-    ensures { Found bytes.now (length_faults bytes.now) result }
+// The number of pairs, where the frozen map ends at `end`: its two bytes are read only where bit 3 of the map of fields says that they stand.
+fn pair_count(bytes: &[u8], fields: u32, end: usize) -> u32
+    requires { end + 2 * (fields / 8 % 2) ≤ length bytes.now }
+    ensures { (result ≡ if_present (fields / 8 % 2) (two_at bytes.now end) 0) × (result < 65536) }
 {
-    if bytes.len() != end + 2 * n {
-        return Located::Refused(13);
+    if fields / 8 % 2 == 0 {
+        return 0;
     }
-    Located::At(Layout {
-        fields: fields,
-        m: m,
-        n: n,
-        count: 0,
-        map: map_at(fields),
-        pairs: end,
-        soft: end,
-    })
+    two(bytes, end)
 }
 
-// A record with pairs: refusals 13, 15 and 13. The count is read only where the record reaches to the end of it.
-fn locate_paired(bytes: &[u8], fields: u32, m: u32, n: usize, end: usize) -> Located
-    requires { (Mapped bytes.now fields m n end) × (fields / 8 % 2 ≡ 0 → ⊥) }
-    ensures { Found bytes.now (length_faults bytes.now) result }
-{
-    let pairs = end + 2;
-    if bytes.len() < pairs {
-        return Located::Refused(13);
-    }
-    let count = two(bytes, end);
-    let soft = pairs + 4 * (count as usize);
-    let many = count > 256;
-    let wrong = bytes.len() != soft + 2 * n;
-    if many {
-        return Located::Refused(15);
-    }
-    if wrong {
-        return Located::Refused(13);
-    }
-    Located::At(Layout {
-        fields: fields,
-        m: m,
-        n: n,
-        count: count,
-        map: map_at(fields),
-        pairs: pairs,
-        soft: soft,
-    })
-}
-
-fn locate_parts(bytes: &[u8], fields: u32, m: u32) -> Located
+// Refusals 13, 15 and 13.
+fn locate_parts(bytes: &[u8], fields: u32, m: u32) -> Result<JobRecord, Refusal>
     requires { Headed bytes.now fields m }
     ensures { Found bytes.now (length_faults bytes.now) result }
 {
     let n = size(m);
     let end = map_end(fields, n);
-    if fields / 8 % 2 == 0 {
-        return locate_plain(bytes, fields, m, n, end);
+    let pairs = end + 2 * (fields / 8 % 2) as usize;
+    if bytes.len() < pairs {
+        return Err(Refusal::RecordLength);
     }
-    locate_paired(bytes, fields, m, n, end)
+    let count = pair_count(bytes, fields, end);
+    let soft = pairs + 4 * (count as usize);
+    let many = count > 256;
+    let wrong = bytes.len() != soft + 2 * n;
+    if many {
+        return Err(Refusal::Pairs);
+    }
+    if wrong {
+        return Err(Refusal::RecordLength);
+    }
+    let map = map_at(fields);
+    let at = Layout {
+        fields,
+        m,
+        n,
+        count,
+        map,
+        pairs,
+        soft,
+    };
+    Ok(JobRecord { bytes, at })
 }
 
 // Refusals 13, 14, 13, 1, 13, 15 and 13.
-pub fn locate(bytes: &[u8]) -> Located
+pub fn locate(bytes: &[u8]) -> Result<JobRecord, Refusal>
     ensures { Found bytes.now (shape_faults bytes.now) result }
 {
     if bytes.len() == 0 {
-        return Located::Refused(13);
+        return Err(Refusal::RecordLength);
     }
     let fields = wide(bytes[0]);
     if fields > 31 {
-        return Located::Refused(14);
+        return Err(Refusal::FieldMap);
     }
     if bytes.len() == 1 {
-        return Located::Refused(13);
+        return Err(Refusal::RecordLength);
     }
     let m = wide(bytes[1]);
     if m < 2 {
-        return Located::Refused(1);
+        return Err(Refusal::Exponent);
     }
     if m > 10 {
-        return Located::Refused(1);
+        return Err(Refusal::Exponent);
     }
     locate_parts(bytes, fields, m)
 }

@@ -1,36 +1,24 @@
 -- The loop that counts the correlations at the mark. Assumes nothing.
 use mathlib.Core.Path.{◌≡◌, sym, ap, ◌∙◌}
 use mathlib.Core.List.{List, [], map}
-use Prim.Native.Nat.{ℕ, zero, suc, ◌+◌, ◌<◌, ◌≤◌}
+use Prim.Native.Nat.{ℕ, suc, ◌+◌, ◌<◌, ◌≤◌}
 use native.Mathlib.Omega.{arith}
 use native.Mathlib.Numerals.{add-one}
 use lib.ListN.{length, drop, get_or, length-map, drop_of_length-le}
 use lib.Seq.{drop-cons}
 use lib.IntN.{ℤ, pos}
-use Rattle.laws.specs.ListCost.{All, none, more}
+use Rattle.laws.specs.ListCost.{All, all_at}
 use Rattle.correlations.specs.Folding.{wrapped}
 use Rattle.payload_blocks.specs.Numerals.{get_d_map}
 use Rattle.list_words.specs.Hits.{counts, hits}
 use Rattle.list_words.specs.HitLaws.{hits_first}
 use Rattle.list_words.specs.Kept.{Small}
 
-pub all_at : {P : ℤ → Type 0} {xs : List ℤ} → All P xs → (i : ℕ) → i < length xs → P (get_or xs i (pos 0))
-all_at none i h = absurd (omega (arith, h))
-all_at (more p a) zero h = p
-all_at (more p a) (suc i) h = all_at a i (omega (arith, h))
-
 -- the first i bins are counted
 pub record Counting (mark : ℤ) (bins : List ℕ) (i found : ℕ) : Type 0 where
   pub near : i ≤ length bins
   pub few : found ≤ i
   pub is : (zs : List ℤ) (q : ℕ) → All Small zs → bins ≡ map wrapped zs → found + length (hits mark (q + i) (drop i zs)) ≡ length (hits mark q zs)
-
-pub counting_none : (mark : ℤ) (bins : List ℕ) → Counting mark bins 0 0
-counting_none mark bins = record {
-  near = omega arith;
-  few = omega arith;
-  is = λ zs q a e. let z : q + 0 ≡ q = omega arith in omega (arith, ap (λ (k : ℕ). length (hits mark k zs)) z);
-}
 
 module _ {mark : ℤ} {bins : List ℕ} {i found : ℕ} (s : Counting mark bins i found) where
   pub counting_turn : i < length bins → {r : ℕ} → r ≤ 1 → ((z : ℤ) → Small z → get_or bins i 0 ≡ wrapped z → r ≡ counts mark z)
@@ -45,7 +33,7 @@ module _ {mark : ℤ} {bins : List ℕ} {i found : ℕ} (s : Counting mark bins 
         let here : get_or bins i 0 ≡ wrapped z = ap (λ (b : List ℕ). get_or b i 0) e ∙ get_d_map wrapped zs i (pos 0) 0 l in
         let now : length (hits mark (q + i) (drop i zs)) ≡ r + length (hits mark (suc (q + i)) rest)
         = ap (λ (x : List ℤ). length (hits mark (q + i) x)) (drop-cons zs i (pos 0) l) ∙ hits_first mark (q + i) z rest
-        ∙ ap (λ (k : ℕ). k + length (hits mark (suc (q + i)) rest)) (sym (f z (all_at a i l) here)) in
+        ∙ ap (λ (k : ℕ). k + length (hits mark (suc (q + i)) rest)) (sym (f z (all_at (pos 0) a i l) here)) in
         let next : length (hits mark (q + (i + 1)) (drop (i + 1) zs)) ≡ length (hits mark (suc (q + i)) rest)
         = rw (add-one i) (let k : q + suc i ≡ suc (q + i) = omega arith in ap (λ (j : ℕ). length (hits mark j rest)) k) in
         omega (arith, now, next, s.is zs q a e);

@@ -1,6 +1,6 @@
 -- The loop that keeps the rows of a block. Assumes nothing.
-use mathlib.Core.Path.{◌≡◌, refl, sym, ap, subst, ◌∙◌}
-use mathlib.Core.List.{List, [], ◌∷◌, ◌++◌, append-nil, append_assoc}
+use mathlib.Core.Path.{◌≡◌, sym, ap, subst, ◌∙◌}
+use mathlib.Core.List.{List, [], ◌∷◌, ◌++◌, append_assoc}
 use Prim.Native.Nat.{ℕ, suc, ◌+◌, ◌<◌, ◌≤◌}
 use native.Mathlib.Omega.{arith}
 use native.Mathlib.Numerals.{add-one}
@@ -10,7 +10,7 @@ use lib.Pow.{pow_mono}
 use lib.IntN.{ℤ, pos}
 use Rattle.spec.specs.Code.{Code, payload_size}
 use Rattle.spec.specs.Score.{correlation}
-use Rattle.laws.specs.ListCost.{all_take, all_drop}
+use Rattle.laws.specs.ListCost.{all_at, all_take, all_drop}
 use Rattle.correlations.specs.Folding.{wrapped}
 use Rattle.payload_blocks.specs.Payloads.{correlations}
 use Rattle.payload_blocks.specs.Numerals.{get_d_map}
@@ -18,7 +18,6 @@ use Rattle.payload_blocks.specs.PayloadBlocks.{length_correlations, correlation_
 use Rattle.list_words.specs.Hits.{counts, hits, word_at}
 use Rattle.list_words.specs.HitLaws.{hits_append, hits_few, hits_first}
 use Rattle.list_words.specs.Kept.{Kept, Small, Holds, part, BinFits, BlockRoom}
-use Rattle.list_words.proofs.Counting.{all_at}
 
 -- ---- the correlation in bin i
 module _ {c : Code} {y : List ℤ} {bins : List ℕ} {q : ℕ} (h : Holds c y bins q) where
@@ -30,7 +29,7 @@ module _ {c : Code} {y : List ℤ} {bins : List ℕ} {q : ℕ} (h : Holds c y bi
     z = get_or (part c y q (length bins)) i (pos 0)
 
     pub here_small : Small z
-    here_small = all_at (all_take (length bins) (all_drop q h.small)) i (omega (arith, l, part_long))
+    here_small = all_at (pos 0) (all_take (length bins) (all_drop q h.small)) i (omega (arith, l, part_long))
 
     pub here_is : get_or bins i 0 ≡ wrapped z
     here_is = ap (λ (b : List ℕ). get_or b i 0) h.is ∙ get_d_map wrapped (part c y q (length bins)) i (pos 0) 0 (omega (arith, l, part_long))
@@ -73,18 +72,6 @@ pub record Keeping (c : Code) (mark : ℤ) (bins : List ℕ) (from q payload₀ 
   pub found_is : (y : List ℤ) (hs : List ℕ) → length hs ≡ from → Holds c y bins q → found ≡ length (hs ++ hits mark q (take i (part c y q (length bins))))
   pub rows_are : (y : List ℤ) (hs : List ℕ) → length hs ≡ from → Holds c y bins q → Kept c y hs inputs₀ words₀ scores₀
       → Kept c y (hs ++ hits mark q (take i (part c y q (length bins)))) inputs words scores
-
-pub keeping_none : (c : Code) (mark : ℤ) (bins : List ℕ) (from q : ℕ) (payload inputs words : List ℕ) (scores : List ℤ)
-    → Keeping c mark bins from q (length payload) inputs words scores payload inputs words scores from 0
-keeping_none c mark bins from q payload inputs words scores = record {
-  near = omega arith;
-  payload_kept = refl;
-  inputs_kept = refl;
-  words_kept = refl;
-  scores_kept = refl;
-  found_is = λ y hs e h. sym (ap length (append-nil hs) ∙ e);
-  rows_are = λ y hs e h k. rw (append-nil hs) k;
-}
 
 module _ {c : Code} {mark : ℤ} {bins : List ℕ} {from q payload₀ : ℕ} {inputs₀ words₀ : List ℕ} {scores₀ : List ℤ}
     {payload inputs words : List ℕ} {scores : List ℤ} {found i n : ℕ}

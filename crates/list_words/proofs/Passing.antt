@@ -8,7 +8,7 @@ use borrow.Author.Tests.{ltb-true, ltb-false}
 use lib.Dec.{ltb}
 use lib.ListN.{length, take, drop, replicate, length-append, length-take, take-append-drop}
 use lib.Seq.{take-add, take_all}
-use lib.Pow.{pow-add, pow_mono, pow_pos}
+use lib.Pow.{pow-add, pow_mono}
 use lib.IntN.{ℤ, pos}
 use mathlib.Core.Bool.{Bool, true, false}
 use Rattle.spec.specs.Code.{Code, payload_size}
@@ -122,12 +122,11 @@ module _ {c : Code} {soft : List ℤ} {mark : ℤ} {cols : List ℕ} {r payload�
   turn_inside l = block_inside f.last s.multiple l
 
   pub passing_turn : q < 2 ^ payload_size c → {payload' word' bins' : List ℕ} → length payload' ≡ length payload → length word' ≡ length word → length bins' ≡ length bins
-      → {found' : ℕ} → found' ≡ found + length (hits mark q (block c soft r q)) → Passing c soft mark r payload₀ word₀ bins₀ payload' word' bins' found' (q + length bins')
-  passing_turn l {bins' = bins'} ep ew eb {found'} e =
-      let step : length bins' ≡ 2 ^ r = eb ∙ s.bins_kept ∙ f.bins_long in
+      → {found' : ℕ} → found' ≡ found + length (hits mark q (block c soft r q)) → Passing c soft mark r payload₀ word₀ bins₀ payload' word' bins' found' (q + bins₀)
+  passing_turn l {payload'} {word'} {bins'} ep ew eb {found'} e =
       let a : List ℕ = hits mark 0 (take q (correlations c (taken soft))) in
       let b : List ℕ = hits mark q (block c soft r q) in
-      rw step (record {
+      subst (λ (j : ℕ). Passing c soft mark r payload₀ word₀ bins₀ payload' word' bins' found' (q + j)) (sym f.bins_long) (record {
         multiple = multiple_next s.multiple;
         near = turn_inside l;
         payload_kept = ep ∙ s.payload_kept;
@@ -211,11 +210,10 @@ module _ {c : Code} {soft : List ℤ} {mark : ℤ} {cols : List ℕ} {r payload�
       → length payload' ≡ length payload → length word' ≡ length word → length bins' ≡ length bins
       → length inputs' ≡ length inputs → length words' ≡ length words → length scores' ≡ length scores
       → ((hs : List ℕ) → length hs ≡ found → Wrote c (taken soft) mark q (block c soft r q) k hs inputs words scores inputs' words' scores')
-      → Writing c soft mark r payload₀ word₀ bins₀ inputs₀ words₀ scores₀ payload' word' bins' inputs' words' scores' k (q + length bins')
+      → Writing c soft mark r payload₀ word₀ bins₀ inputs₀ words₀ scores₀ payload' word' bins' inputs' words' scores' k (q + bins₀)
   writing_turn l {payload'} {word'} {bins'} {inputs'} {words'} {scores'} {k} ep ew eb ei eo es w =
       let b : List ℕ = hits mark q (block c soft r q) in
       let now = w so_far (sym s.pass.is) in
-      let step : length bins' ≡ 2 ^ r = eb ∙ s.pass.bins_kept ∙ f.bins_long in
       let count : k ≡ found + length b = now.0 ∙ length-append so_far b ∙ ap (λ (j : ℕ). j + length b) (sym s.pass.is) in
       record {
         pass = passing_turn f s.pass l ep ew eb count;
@@ -223,7 +221,7 @@ module _ {c : Code} {soft : List ℤ} {mark : ℤ} {cols : List ℕ} {r payload�
         words_kept = eo ∙ s.words_kept;
         scores_kept = es ∙ s.scores_kept;
         rows_are =
-            subst (λ (j : ℕ). Kept c (taken soft) (hits mark 0 (take (q + j) (correlations c (taken soft)))) inputs' words' scores') (sym step)
+            subst (λ (j : ℕ). Kept c (taken soft) (hits mark 0 (take (q + j) (correlations c (taken soft)))) inputs' words' scores') (sym f.bins_long)
             (subst (λ (hs : List ℕ). Kept c (taken soft) hs inputs' words' scores') (sym (hits_block c soft mark r q (turn_inside f s.pass l))) (now.1 s.rows_are));
       }
 
@@ -243,15 +241,9 @@ kept_none c y inputs₀ words₀ scores₀ inputs words scores li lw ls ei ew es
     nothing : (n : ℕ) → n ≡ n - 0
     nothing n = omega arith
 
--- a block has at most 2 ^ r words, and the next one begins at a number that is small
+-- a block has at most 2 ^ r words
 module _ {c : Code} {soft : List ℤ} {mark : ℤ} {cols : List ℕ} {r payload₀ word₀ bins₀ : ℕ} {payload word bins : List ℕ} {found q : ℕ}
     (f : BlockFits c soft cols r payload₀ word₀ bins₀) (s : Passing c soft mark r payload₀ word₀ bins₀ payload word bins found q) (l : q < 2 ^ payload_size c) where
   pub sum_small : (z : ℤ) → found + length (hits z q (block c soft r q)) ≤ 1048576
   sum_small z =
       omega (arith, hits_few z q (block c soft r q), length-take (2 ^ r) (drop q (correlations c (taken soft))), found_early f s, turn_inside f s l, total_small f)
-
-  pub next_small : {b : ℕ} → b ≡ length bins → q + b ≤ 1048576
-  next_small e = omega (arith, e, s.bins_kept, f.bins_long, turn_inside f s l, total_small f)
-
-  pub next_further : {b : ℕ} → b ≡ length bins → 2 ^ payload_size c - (q + b) < 2 ^ payload_size c - q
-  next_further e = omega (arith, e, s.bins_kept, f.bins_long, l, pow_pos r)

@@ -12,6 +12,8 @@ use Rattle.spec.specs.Outcome.{Lent, room_of}
 use Rattle.spec.specs.WordList.{list_faults, refused_count, Listing, listing, list_refusal, list_served, list_outcome}
 use Rattle.laws.specs.FirstFault.{First, none, later, of_first, same_of, settled_refused, settled_served}
 use Rattle.laws.specs.Accepted.{accepted_of}
+use Rattle.refusals.specs.declared.Refusal.{Refusal}
+use Rattle.refusals.specs.Number.{number_of, not_zero}
 use Rattle.list_words.specs.Listed.{ServeFits}
 
 unrefused : (c : Code) (soft : List ℤ) (n k : ℕ) (r : Room) → n ≡ size c → k ≡ payload_size c → First (list_faults c soft r) 0 → ServeFits c soft n k r
@@ -30,16 +32,23 @@ unrefused c soft n k r en ek
       words_there = ltb-false r.words (size c * r.scores) y;
     }
 
-module _ (c : Code) (soft : List ℤ) (k : ℕ) (x : Lent) (found : k ≡ first (list_faults c soft (room_of x))) where
-  pub serve_fits : k ≡ 0 → (n j : ℕ) → n ≡ size c → j ≡ payload_size c → ServeFits c soft n j (room_of x)
-  serve_fits z n j en ej = unrefused c soft n j (room_of x) en ej (of_first (list_faults c soft (room_of x)) 0 (sym z ∙ found))
+module _ (c : Code) (soft : List ℤ) where
+  -- what is found by the lengths that were measured
+  pub by_room : {k : ℕ} {r s : Room} → r ≡ s → k ≡ first (list_faults c soft r) → k ≡ first (list_faults c soft s)
+  by_room e f = f ∙ ap (λ (r : Room). first (list_faults c soft r)) e
 
-  pub refused_call : (mark : ℤ) → (k ≡ 0 → ⊥) → listing (refused_count k) x ≡ list_outcome c mark soft x
-  unfolding list_outcome list_refusal
-  refused_call mark n = settled_refused (λ j. listing (refused_count j) x) (list_served c mark soft x) k (first (list_faults c soft (room_of x))) found n
+  pub serve_fits : (r : Room) → 0 ≡ first (list_faults c soft r) → (n j : ℕ) → n ≡ size c → j ≡ payload_size c → ServeFits c soft n j r
+  serve_fits r e n j en ej = unrefused c soft n j r en ej (of_first (list_faults c soft r) 0 e)
 
-  pub served_call : (mark z : ℤ) → z ≡ mark → k ≡ 0 → (o : Listing) → o ≡ list_served c z soft x → o ≡ list_outcome c mark soft x
+  pub refused_call : (mark : ℤ) (x : Lent) (e : Refusal) → number_of e ≡ first (list_faults c soft (room_of x))
+      → listing (refused_count (number_of e)) x ≡ list_outcome c mark soft x
   unfolding list_outcome list_refusal
-  served_call mark z e None-found o s =
+  refused_call mark x e f =
+      settled_refused (λ j. listing (refused_count j) x) (list_served c mark soft x) (number_of e) (first (list_faults c soft (room_of x))) f (not_zero e)
+
+  pub served_call : (mark z : ℤ) (x : Lent) → z ≡ mark → 0 ≡ first (list_faults c soft (room_of x)) → (o : Listing) → o ≡ list_served c z soft x
+      → o ≡ list_outcome c mark soft x
+  unfolding list_outcome list_refusal
+  served_call mark z x e f o s =
       s ∙ ap (λ (m : ℤ). list_served c m soft x) e
-      ∙ settled_served (λ j. listing (refused_count j) x) (list_served c mark soft x) (first (list_faults c soft (room_of x))) (sym None-found ∙ found)
+      ∙ settled_served (λ j. listing (refused_count j) x) (list_served c mark soft x) (first (list_faults c soft (room_of x))) f

@@ -1,31 +1,22 @@
-// The call: refused, or served.
+// The call: refused, or served. It answers how many words there are.
 ghost use Rattle.std.specs.Prelude.{◌≡◌, ◌+◌, ◌^◌, ◌≤◌, length};
-ghost use Rattle.spec.specs.Code.{code};
 ghost use Rattle.spec.specs.Refusals.{room};
 ghost use Rattle.spec.specs.Outcome.{lent};
 ghost use Rattle.spec.specs.WordList.{listing, list_served, list_outcome};
+ghost use Rattle.code.specs.Codes.{code_of};
 ghost use Rattle.list_words.specs.Answers.{answer_of};
 ghost use Rattle.list_words.specs.Listed.{ListFits, Listed, ServeFits};
 
+use crate::check::check_list;
 use crate::passes::{count_words, write_rows};
-use crate::refusals::list_refusal;
-use code::{payload_size, size};
+use code::{Code, size};
 use payload_blocks::find_columns;
+use refusals::{Refusal, Room};
 use slices::clear_tables;
-
-// How many words there are, or the refusal number.
-#[derive(Drop)]
-pub enum Counted {
-    Words(u32),
-    Refused(u32),
-}
 
 // Counts the words, and writes their rows where they have room. How many there are. Columns, payload, word and bins are working memory.
 fn list_all(
-    m: u32,
-    arikan: bool,
-    map: &[u8],
-    pairs: &[u8],
+    code: Code,
     mark: i32,
     soft: &[i16],
     cols: &mut [u32],
@@ -39,21 +30,18 @@ fn list_all(
     n: usize,
     total: usize,
 ) -> usize
-    requires { ListFits (code m arikan map.now pairs.now) soft.now r n total (length cols.old) (length payload.old) (length word.old) (length bins.old)
+    requires { ListFits (code_of code) soft.now r n total (length cols.old) (length payload.old) (length word.old) (length bins.old)
         (length inputs.old) (length words.old) (length scores.old) }
-    ensures { Listed (code m arikan map.now pairs.now) soft.now mark result
+    ensures { Listed (code_of code.entry) soft.now mark result
         inputs.old words.old scores.old inputs.new words.new scores.new }
 {
-    find_columns(m, arikan, map, pairs, payload, word, cols, r);
-    let found = count_words(
-        m, arikan, map, pairs, soft, cols, payload, word, bins, r, total, mark,
-    );
+    find_columns(code, payload, word, cols, r);
+    let found = count_words(code, soft, cols, payload, word, bins, r, total, mark);
     if found > scores.len() {
         return found;
     }
     write_rows(
-        m, arikan, map, pairs, soft, cols, payload, word, bins, inputs, words, scores, r, n, total,
-        mark,
+        code, soft, cols, payload, word, bins, inputs, words, scores, r, n, total, mark,
     );
     found
 }
@@ -71,18 +59,12 @@ fn last_bits(m: u32, k: u32) -> u32
     requires { m ≤ 10 }
     ensures { (result ≤ k) × (result ≤ m + 4) }
 {
-    if k < m + 4 {
-        return k;
-    }
-    m + 4
+    k.min(m + 4)
 }
 
 // The same in the tables that are lent. What is kept in memory of its own is made from the code alone: the columns, and payloads in their order.
 fn list_in_tables(
-    m: u32,
-    arikan: bool,
-    map: &[u8],
-    pairs: &[u8],
+    code: Code,
     mark: i32,
     soft: &[i16],
     numbers: &mut [u32],
@@ -94,9 +76,9 @@ fn list_in_tables(
     k: usize,
     r: u32,
 ) -> usize
-    requires { (ServeFits (code m arikan map.now pairs.now) soft.now n k (room (length numbers.old) (length bytes.old) (length inputs.old) (length words.old) (length scores.old)))
-        × (r ≤ k) × (r ≤ m + 4) }
-    ensures { Listed (code m arikan map.now pairs.now) soft.now mark result
+    requires { (ServeFits (code_of code) soft.now n k (room (length numbers.old) (length bytes.old) (length inputs.old) (length words.old) (length scores.old)))
+        × (r ≤ k) × (r ≤ code.m + 4) }
+    ensures { Listed (code_of code.entry) soft.now mark result
         inputs.old words.old scores.old inputs.new words.new scores.new }
 {
     let mut cols: [u32; 1024] = [0; 1024];
@@ -104,10 +86,7 @@ fn list_in_tables(
     let step = power(r);
     let total = power(k as u32);
     list_all(
-        m,
-        arikan,
-        map,
-        pairs,
+        code,
         mark,
         soft,
         &mut cols[..n],
@@ -125,10 +104,7 @@ fn list_in_tables(
 
 // A call that is not refused before: then the tables are 0, and the outputs hold the rows, or are as before where there is no room.
 fn serve(
-    m: u32,
-    arikan: bool,
-    map: &[u8],
-    pairs: &[u8],
+    code: Code,
     mark: i32,
     soft: &[i16],
     numbers: &mut [u32],
@@ -138,29 +114,26 @@ fn serve(
     scores: &mut [i32],
     n: usize,
     k: usize,
-) -> Counted
-    requires { ServeFits (code m arikan map.now pairs.now) soft.now n k (room (length numbers.old) (length bytes.old) (length inputs.old) (length words.old) (length scores.old)) }
+) -> Result<u32, Refusal>
+    requires { ServeFits (code_of code) soft.now n k (room (length numbers.old) (length bytes.old) (length inputs.old) (length words.old) (length scores.old)) }
     ensures { listing (answer_of result) (lent numbers.new bytes.new inputs.new words.new scores.new)
-        ≡ list_served (code m arikan map.now pairs.now) mark soft.now (lent numbers.old bytes.old inputs.old words.old scores.old) }
+        ≡ list_served (code_of code.entry) mark soft.now (lent numbers.old bytes.old inputs.old words.old scores.old) }
 {
-    let r = last_bits(m, k as u32);
+    let r = last_bits(code.m, k as u32);
     let found = list_in_tables(
-        m, arikan, map, pairs, mark, soft, numbers, bytes, inputs, words, scores, n, k, r,
+        code, mark, soft, numbers, bytes, inputs, words, scores, n, k, r,
     );
     clear_tables(numbers, bytes);
     if scores.len() < found {
-        return Counted::Refused(19);
+        return Err(Refusal::ManyWords);
     }
-    Counted::Words(found as u32)
+    Ok(found as u32)
 }
 
 // Each code word that correlates with the soft values at the mark or above, once, the smaller input first: inputs, words and correlations, 0
 // behind them.
 pub fn list_words(
-    m: u32,
-    arikan: bool,
-    map: &[u8],
-    pairs: &[u8],
+    code: Code,
     mark: i32,
     soft: &[i16],
     numbers: &mut [u32],
@@ -168,27 +141,14 @@ pub fn list_words(
     inputs: &mut [u8],
     words: &mut [u8],
     scores: &mut [i32],
-) -> Counted
+) -> Result<u32, Refusal>
     ensures { listing (answer_of result) (lent numbers.new bytes.new inputs.new words.new scores.new)
-        ≡ list_outcome (code m arikan map.now pairs.now) mark soft.now (lent numbers.old bytes.old inputs.old words.old scores.old) }
+        ≡ list_outcome (code_of code.entry) mark soft.now (lent numbers.old bytes.old inputs.old words.old scores.old) }
 {
-    let refusal = list_refusal(
-        m,
-        map,
-        pairs,
-        soft,
-        numbers.len(),
-        bytes.len(),
-        inputs.len(),
-        words.len(),
-        scores.len(),
-    );
-    if refusal != 0 {
-        return Counted::Refused(refusal);
-    }
-    let n = size(m);
-    let k = payload_size(m, map);
+    check_list(code, soft, Room::of(numbers, bytes, inputs, words, scores))?;
+    let n = size(code.m);
+    let k = code.payload_size();
     serve(
-        m, arikan, map, pairs, mark, soft, numbers, bytes, inputs, words, scores, n, k,
+        code, mark, soft, numbers, bytes, inputs, words, scores, n, k,
     )
 }

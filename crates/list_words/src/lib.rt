@@ -2,9 +2,9 @@
 #![tactic(auto)]
 
 mod call;
+mod check;
 mod marks;
 mod passes;
-mod refusals;
 mod rows_kept;
 
-pub use call::{Counted, list_words};
+pub use call::list_words;

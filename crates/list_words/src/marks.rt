@@ -8,21 +8,14 @@ ghost use Rattle.list_words.specs.Hits.{counts, hits};
 pub(crate) fn value_of(v: u32) -> i32
     ensures { (z : ℤ) → nat_abs z ≤ 2096128 → v ≡ wrapped z → result ≡ z }
 {
-    if v < 2147483648 {
-        v as i32
-    } else {
-        -1 - ((4294967295 - v) as i32)
-    }
+    v.cast_signed()
 }
 
 // 1 where a correlation is at the mark or above, else 0.
 pub(crate) fn reached(v: u32, mark: i32) -> usize
     ensures { (result ≤ 1) × ((z : ℤ) → nat_abs z ≤ 2096128 → v ≡ wrapped z → result ≡ counts mark z) }
 {
-    if mark <= value_of(v) {
-        return 1;
-    }
-    0
+    usize::from(mark <= value_of(v))
 }
 
 // How many of the correlations are at the mark or above.
@@ -31,10 +24,8 @@ pub(crate) fn count_block(bins: &[u32], mark: i32) -> usize
         → bins.now ≡ map wrapped zs → result ≡ length (hits mark q zs)) }
 {
     let mut found = 0;
-    let mut i = 0;
-    while i < bins.len() {
-        found += reached(bins[i], mark);
-        i += 1;
+    for v in bins {
+        found += reached(*v, mark);
     }
     found
 }

@@ -1,7 +1,8 @@
 // Two passes over all payloads, block by block: one counts the words at the mark or above, the other writes their rows.
 ghost use Rattle.std.specs.Prelude.{◌≡◌, List, ◌++◌, ℕ, ◌+◌, ◌^◌, ◌≤◌, pos, length, replicate};
-ghost use Rattle.spec.specs.Code.{code, payload_size};
+ghost use Rattle.spec.specs.Code.{payload_size};
 ghost use Rattle.spec.specs.Score.{taken};
+ghost use Rattle.code.specs.Codes.{code_of};
 ghost use Rattle.payload_blocks.specs.Payloads.{Multiple, correlations};
 ghost use Rattle.payload_blocks.specs.BlockFits.{BlockFits, block};
 ghost use Rattle.list_words.specs.Hits.{hits};
@@ -9,15 +10,12 @@ ghost use Rattle.list_words.specs.Kept.{Kept, TurnRoom, PassRoom};
 
 use crate::marks::count_block;
 use crate::rows_kept::keep_block;
+use code::Code;
 use payload_blocks::correlate_block;
-use slices::{fill_bytes, fill_scores};
 
 // How many words of the block that begins with payload q are at the mark or above.
 fn count_turn(
-    m: u32,
-    arikan: bool,
-    map: &[u8],
-    pairs: &[u8],
+    code: Code,
     soft: &[i16],
     cols: &[u32],
     payload: &mut [u8],
@@ -27,20 +25,17 @@ fn count_turn(
     q: usize,
     mark: i32,
 ) -> usize
-    requires { (BlockFits (code m arikan map.now pairs.now) soft.now cols.now r (length payload.old) (length word.old) (length bins.old))
-        × (Multiple r q) × (q + 2 ^ r ≤ 2 ^ payload_size (code m arikan map.now pairs.now)) }
-    ensures { result ≡ length (hits mark q (block (code m arikan map.now pairs.now) soft.now r q)) }
+    requires { (BlockFits (code_of code) soft.now cols.now r (length payload.old) (length word.old) (length bins.old))
+        × (Multiple r q) × (q + 2 ^ r ≤ 2 ^ payload_size (code_of code)) }
+    ensures { result ≡ length (hits mark q (block (code_of code.entry) soft.now r q)) }
 {
-    correlate_block(m, arikan, map, pairs, soft, cols, payload, word, bins, r, q);
+    correlate_block(code, soft, cols, payload, word, bins, r, q);
     count_block(bins, mark)
 }
 
 // How many words are at the mark or above, of all `total` payloads. Payload, word and bins are working memory.
 pub(crate) fn count_words(
-    m: u32,
-    arikan: bool,
-    map: &[u8],
-    pairs: &[u8],
+    code: Code,
     soft: &[i16],
     cols: &[u32],
     payload: &mut [u8],
@@ -50,27 +45,20 @@ pub(crate) fn count_words(
     total: usize,
     mark: i32,
 ) -> usize
-    requires { (BlockFits (code m arikan map.now pairs.now) soft.now cols.now r (length payload.old) (length word.old) (length bins.old))
-        × (total ≡ 2 ^ payload_size (code m arikan map.now pairs.now)) }
-    ensures { result ≡ length (hits mark 0 (correlations (code m arikan map.now pairs.now) (taken soft.now))) }
+    requires { (BlockFits (code_of code) soft.now cols.now r (length payload.old) (length word.old) (length bins.old))
+        × (total ≡ 2 ^ payload_size (code_of code)) }
+    ensures { result ≡ length (hits mark 0 (correlations (code_of code.entry) (taken soft.now))) }
 {
     let mut found = 0;
-    let mut q = 0;
-    while q < total {
-        found += count_turn(
-            m, arikan, map, pairs, soft, cols, payload, word, bins, r, q, mark,
-        );
-        q += bins.len();
+    for q in (0..total).step_by(bins.len()) {
+        found += count_turn(code, soft, cols, payload, word, bins, r, q, mark);
     }
     found
 }
 
 // The rows of that block, behind the `found` rows that are there. How many there are then.
 fn write_turn(
-    m: u32,
-    arikan: bool,
-    map: &[u8],
-    pairs: &[u8],
+    code: Code,
     soft: &[i16],
     cols: &[u32],
     payload: &mut [u8],
@@ -85,17 +73,17 @@ fn write_turn(
     q: usize,
     mark: i32,
 ) -> usize
-    requires { (BlockFits (code m arikan map.now pairs.now) soft.now cols.now r (length payload.old) (length word.old) (length bins.old))
-        × (Multiple r q) × (q + 2 ^ r ≤ 2 ^ payload_size (code m arikan map.now pairs.now))
-        × (TurnRoom (code m arikan map.now pairs.now) soft.now mark r n found q (length inputs.old) (length words.old) (length scores.old)) }
+    requires { (BlockFits (code_of code) soft.now cols.now r (length payload.old) (length word.old) (length bins.old))
+        × (Multiple r q) × (q + 2 ^ r ≤ 2 ^ payload_size (code_of code))
+        × (TurnRoom (code_of code) soft.now mark r n found q (length inputs.old) (length words.old) (length scores.old)) }
     ensures { (hs : List ℕ) → length hs ≡ found
-        → (result ≡ length (hs ++ hits mark q (block (code m arikan map.now pairs.now) soft.now r q)))
-        × (Kept (code m arikan map.now pairs.now) (taken soft.now) hs inputs.old words.old scores.old
-        → Kept (code m arikan map.now pairs.now) (taken soft.now) (hs ++ hits mark q (block (code m arikan map.now pairs.now) soft.now r q)) inputs.new words.new scores.new) }
+        → (result ≡ length (hs ++ hits mark q (block (code_of code.entry) soft.now r q)))
+        × (Kept (code_of code.entry) (taken soft.now) hs inputs.old words.old scores.old
+        → Kept (code_of code.entry) (taken soft.now) (hs ++ hits mark q (block (code_of code.entry) soft.now r q)) inputs.new words.new scores.new) }
 {
-    correlate_block(m, arikan, map, pairs, soft, cols, payload, word, bins, r, q);
+    correlate_block(code, soft, cols, payload, word, bins, r, q);
     keep_block(
-        m, arikan, map, pairs, bins, payload, inputs, words, scores, n, found, q, mark,
+        code, bins, payload, inputs, words, scores, n, found, q, mark,
     )
 }
 
@@ -105,17 +93,14 @@ fn clear_outputs(inputs: &mut [u8], words: &mut [u8], scores: &mut [i32])
         × (words.new ≡ replicate (length words.old) 0)
         × (scores.new ≡ replicate (length scores.old) (pos 0)) }
 {
-    fill_bytes(inputs, 0);
-    fill_bytes(words, 0);
-    fill_scores(scores, 0);
+    inputs.fill(0);
+    words.fill(0);
+    scores.fill(0);
 }
 
 // The rows of all words at the mark or above, which have room, and 0 behind them.
 pub(crate) fn write_rows(
-    m: u32,
-    arikan: bool,
-    map: &[u8],
-    pairs: &[u8],
+    code: Code,
     soft: &[i16],
     cols: &[u32],
     payload: &mut [u8],
@@ -129,20 +114,17 @@ pub(crate) fn write_rows(
     total: usize,
     mark: i32,
 )
-    requires { (BlockFits (code m arikan map.now pairs.now) soft.now cols.now r (length payload.old) (length word.old) (length bins.old))
-        × (total ≡ 2 ^ payload_size (code m arikan map.now pairs.now))
-        × (PassRoom (code m arikan map.now pairs.now) soft.now mark n (length inputs.old) (length words.old) (length scores.old)) }
-    ensures { Kept (code m arikan map.now pairs.now) (taken soft.now)
-        (hits mark 0 (correlations (code m arikan map.now pairs.now) (taken soft.now))) inputs.new words.new scores.new }
+    requires { (BlockFits (code_of code) soft.now cols.now r (length payload.old) (length word.old) (length bins.old))
+        × (total ≡ 2 ^ payload_size (code_of code))
+        × (PassRoom (code_of code) soft.now mark n (length inputs.old) (length words.old) (length scores.old)) }
+    ensures { Kept (code_of code.entry) (taken soft.now)
+        (hits mark 0 (correlations (code_of code.entry) (taken soft.now))) inputs.new words.new scores.new }
 {
     clear_outputs(inputs, words, scores);
     let mut found = 0;
-    let mut q = 0;
-    while q < total {
+    for q in (0..total).step_by(bins.len()) {
         found = write_turn(
-            m, arikan, map, pairs, soft, cols, payload, word, bins, inputs, words, scores, r, n,
-            found, q, mark,
+            code, soft, cols, payload, word, bins, inputs, words, scores, r, n, found, q, mark,
         );
-        q += bins.len();
     }
 }

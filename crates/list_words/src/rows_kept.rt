@@ -1,35 +1,27 @@
 // The rows of the payloads that are kept: input, word and score, one behind the other.
 ghost use Rattle.std.specs.Prelude.{◌≡◌, List, ◌∷◌, [], ◌++◌, ℕ, ◌+◌, ◌*◌, ◌≤◌, ◌<◌, length, ℤ};
-ghost use Rattle.spec.specs.Code.{code};
 ghost use Rattle.spec.specs.Score.{correlation};
 ghost use Rattle.correlations.specs.Folding.{wrapped};
+ghost use Rattle.code.specs.Codes.{code_of};
 ghost use Rattle.payload_blocks.specs.WordFits.{WordFits};
 ghost use Rattle.list_words.specs.Hits.{hits, input_at, word_at};
 ghost use Rattle.list_words.specs.Kept.{RowFits, Kept, Small, BinFits, Holds, part, BlockRoom};
 
 use crate::marks::value_of;
+use code::Code;
 use encoder::fill_input;
 use payload_blocks::put_payload;
 use rows::words::put_word;
 
 // The input and the word of the payload with number q. The payload is working memory.
-fn put_row(
-    m: u32,
-    arikan: bool,
-    map: &[u8],
-    pairs: &[u8],
-    payload: &mut [u8],
-    input: &mut [u8],
-    word: &mut [u8],
-    q: usize,
-)
-    requires { (WordFits (code m arikan map.now pairs.now) (length payload.old) (length input.old)) × (length word.old ≡ length input.old) }
-    ensures { (input.new ≡ input_at (code m arikan map.now pairs.now) q)
-        × (word.new ≡ word_at (code m arikan map.now pairs.now) q) }
+fn put_row(code: Code, payload: &mut [u8], input: &mut [u8], word: &mut [u8], q: usize)
+    requires { (WordFits (code_of code) (length payload.old) (length input.old)) × (length word.old ≡ length input.old) }
+    ensures { (input.new ≡ input_at (code_of code.entry) q)
+        × (word.new ≡ word_at (code_of code.entry) q) }
 {
     put_payload(payload, q);
-    fill_input(map, pairs, payload, input);
-    put_word(word, input, m, arikan);
+    fill_input(code.map, code.pairs, payload, input);
+    put_word(word, input, code.m, code.arikan);
 }
 
 // Where the row with number i begins, in rows of n bytes.
@@ -42,10 +34,7 @@ fn row_start(n: usize, i: usize) -> usize
 
 // The row of the payload with number q, with its correlation s, behind the `found` rows that are there.
 fn keep_row(
-    m: u32,
-    arikan: bool,
-    map: &[u8],
-    pairs: &[u8],
+    code: Code,
     payload: &mut [u8],
     inputs: &mut [u8],
     words: &mut [u8],
@@ -55,18 +44,15 @@ fn keep_row(
     q: usize,
     s: i32,
 )
-    requires { (WordFits (code m arikan map.now pairs.now) (length payload.old) n)
+    requires { (WordFits (code_of code) (length payload.old) n)
         × (RowFits n found (length inputs.old) (length words.old) (length scores.old)) }
-    ensures { (y : List ℤ) (hs : List ℕ) → length hs ≡ found → s ≡ correlation y (word_at (code m arikan map.now pairs.now) q)
-        → Kept (code m arikan map.now pairs.now) y hs inputs.old words.old scores.old
-        → Kept (code m arikan map.now pairs.now) y (hs ++ (q ∷ [])) inputs.new words.new scores.new }
+    ensures { (y : List ℤ) (hs : List ℕ) → length hs ≡ found → s ≡ correlation y (word_at (code_of code.entry) q)
+        → Kept (code_of code.entry) y hs inputs.old words.old scores.old
+        → Kept (code_of code.entry) y (hs ++ (q ∷ [])) inputs.new words.new scores.new }
 {
     let at = row_start(n, found);
     put_row(
-        m,
-        arikan,
-        map,
-        pairs,
+        code,
         payload,
         &mut inputs[at..at + n],
         &mut words[at..at + n],
@@ -77,10 +63,7 @@ fn keep_row(
 
 // One bin: the row of the payload with number q is kept where its correlation is at the mark or above. How many rows there are then.
 fn keep(
-    m: u32,
-    arikan: bool,
-    map: &[u8],
-    pairs: &[u8],
+    code: Code,
     payload: &mut [u8],
     inputs: &mut [u8],
     words: &mut [u8],
@@ -91,19 +74,17 @@ fn keep(
     mark: i32,
     v: u32,
 ) -> usize
-    requires { (WordFits (code m arikan map.now pairs.now) (length payload.old) n)
+    requires { (WordFits (code_of code) (length payload.old) n)
         × (BinFits mark v n found (length inputs.old) (length words.old) (length scores.old)) }
     ensures { (y : List ℤ) (hs : List ℕ) (z : ℤ) → length hs ≡ found → Small z → v ≡ wrapped z
-        → z ≡ correlation y (word_at (code m arikan map.now pairs.now) q)
+        → z ≡ correlation y (word_at (code_of code.entry) q)
         → (result ≡ length (hs ++ hits mark q (z ∷ [])))
-        × (Kept (code m arikan map.now pairs.now) y hs inputs.old words.old scores.old
-        → Kept (code m arikan map.now pairs.now) y (hs ++ hits mark q (z ∷ [])) inputs.new words.new scores.new) }
+        × (Kept (code_of code.entry) y hs inputs.old words.old scores.old
+        → Kept (code_of code.entry) y (hs ++ hits mark q (z ∷ [])) inputs.new words.new scores.new) }
 {
     let s = value_of(v);
     if mark <= s {
-        keep_row(
-            m, arikan, map, pairs, payload, inputs, words, scores, n, found, q, s,
-        );
+        keep_row(code, payload, inputs, words, scores, n, found, q, s);
         return found + 1;
     }
     found
@@ -111,10 +92,7 @@ fn keep(
 
 // The rows of a block, whose first payload has number q, behind the `from` rows that are there. How many there are then.
 pub(crate) fn keep_block(
-    m: u32,
-    arikan: bool,
-    map: &[u8],
-    pairs: &[u8],
+    code: Code,
     bins: &[u32],
     payload: &mut [u8],
     inputs: &mut [u8],
@@ -125,21 +103,17 @@ pub(crate) fn keep_block(
     q: usize,
     mark: i32,
 ) -> usize
-    requires { (WordFits (code m arikan map.now pairs.now) (length payload.old) n)
-        × (BlockRoom (code m arikan map.now pairs.now) mark bins.now n from q (length inputs.old) (length words.old) (length scores.old)) }
-    ensures { (y : List ℤ) (hs : List ℕ) → length hs ≡ from → Holds (code m arikan map.now pairs.now) y bins.now q
-        → (result ≡ length (hs ++ hits mark q (part (code m arikan map.now pairs.now) y q (length bins.now))))
-        × (Kept (code m arikan map.now pairs.now) y hs inputs.old words.old scores.old
-        → Kept (code m arikan map.now pairs.now) y (hs ++ hits mark q (part (code m arikan map.now pairs.now) y q (length bins.now))) inputs.new words.new scores.new) }
+    requires { (WordFits (code_of code) (length payload.old) n)
+        × (BlockRoom (code_of code) mark bins.now n from q (length inputs.old) (length words.old) (length scores.old)) }
+    ensures { (y : List ℤ) (hs : List ℕ) → length hs ≡ from → Holds (code_of code.entry) y bins.now q
+        → (result ≡ length (hs ++ hits mark q (part (code_of code.entry) y q (length bins.now))))
+        × (Kept (code_of code.entry) y hs inputs.old words.old scores.old
+        → Kept (code_of code.entry) y (hs ++ hits mark q (part (code_of code.entry) y q (length bins.now))) inputs.new words.new scores.new) }
 {
     let mut found = from;
-    let mut i = 0;
-    while i < bins.len() {
+    for (i, v) in bins.iter().enumerate() {
         found = keep(
-            m,
-            arikan,
-            map,
-            pairs,
+            code,
             payload,
             inputs,
             words,
@@ -148,9 +122,8 @@ pub(crate) fn keep_block(
             found,
             q + i,
             mark,
-            bins[i],
+            *v,
         );
-        i += 1;
     }
     found
 }

@@ -2,11 +2,10 @@
 -- Assumes nothing.
 use mathlib.Core.Path.{◌≡◌, refl}
 use mathlib.Core.List.{List, [], ◌∷◌}
-use Prim.Native.Nat.{ℕ, zero, suc, ◌+◌, ◌%◌, ◌≤◌, ◌<◌, min}
+use Prim.Native.Nat.{ℕ, zero, suc, ◌+◌, ◌%◌, ◌≤◌, min}
 use native.Mathlib.Omega.{arith}
 use native.Mathlib.Numerals.{add-one}
 use lib.ListN.{length, take, drop, get_or, length-append, drop_of_length-le}
-use lib.Seq.{slice-cons, slice_empty}
 use lib.Dec.{leb}
 use Rattle.spec.specs.Decoder.{sort_by}
 use Rattle.spec.specs.RowCount.{length_sort}
@@ -37,11 +36,6 @@ one_more l a r = rw add-one (go l r)
     go zero (more₂ {x} p r) = first_least x a p
     go (suc l) none₂ = refl
     go (suc l) (more₂ p r) = go l r
-
--- the last of l + 1 entries
-pub last_lost : (l a : ℕ) (xs : List ℕ) → l < length xs → lost_with a (drop l (take (l + 1) xs)) ≡ min (cost_of (get_or xs l 0)) a
-last_lost l a xs h =
-    rw (add-one, slice-cons l (suc l) xs 0 (omega arith) h, slice_empty (suc l) xs)
 
 -- at a frozen position there are no more children than entries
 one_each : (f : ℕ) (xs bs cs ds : List ℕ) (i : ℕ) → length (children_of (suc f) xs bs cs ds i) ≡ i

@@ -13,7 +13,7 @@ ghost use Rattle.live.specs.Lost.{Dropped, Cut, Split};
 ghost use Rattle.live.specs.Stands.{Rep, Position};
 
 // The paths that are live, best first: the first `count` of `code`. The least cost that was ever dropped is `lost`, 2^32 - 1 where
-// nothing was.
+// nothing was. It is an array with a count and no Vec, since the decoder has no heap.
 #[derive(Drop)]
 pub struct Live {
     pub count: usize,
@@ -65,70 +65,48 @@ fn child_place(x: u64, b: u8) -> u64
 pub fn lesser(a: u32, b: u32) -> u32
     ensures { result ≡ min a b }
 {
-    if a < b {
-        return a;
-    }
-    b
+    a.min(b)
 }
 
-// Whether one of the first n entries has a place without room for one more bit.
-fn is_crowded(a: &[u64; 33], n: usize) -> bool
-    requires { (n ≤ 32) × (length a.now ≡ 33) }
-    ensures { result ≡ crowded (take n a.now) }
+// Whether an entry has a place without room for one more bit.
+fn is_crowded(entries: &[u64]) -> bool
+    ensures { result ≡ crowded entries.now }
 {
-    let mut i = 0;
-    while i < n {
-        if 67108864 <= entry_place(a[i]) {
-            return true;
-        }
-        i += 1;
-    }
-    false
+    entries.iter().any(|x| 67108864 <= entry_place(*x))
 }
 
-// How many of the first n entries have a place below t.
-fn places_below(a: &[u64; 33], n: usize, t: u64) -> u64
-    requires { (n ≤ 32) × (length a.now ≡ 33) }
-    ensures { result ≡ below t (take n a.now) }
+// How many entries have a place below t.
+fn places_below(entries: &[u64], t: u64) -> u64
+    ensures { result ≡ below t entries.now }
 {
-    let mut r = 0;
-    let mut i = 0;
-    while i < n {
-        if entry_place(a[i]) < t {
-            r += 1;
-        }
-        i += 1;
-    }
-    r
+    entries.iter().filter(|x| entry_place(**x) < t).count() as u64
 }
 
-// The lexicographic number of entry i among the first n, counted anew where they are crowded.
-fn lex(a: &[u64; 33], n: usize, anew: bool, i: usize) -> u64
-    requires { (i < n) × (n ≤ 32) × (length a.now ≡ 33) × (anew ≡ crowded (take n a.now)) }
-    ensures { (result < 67108864) × (result ≡ lex_of (take n a.now) (get_or a.now i 0)) }
+// The lexicographic number of the entry at rank i, counted anew where the entries are crowded.
+fn lex(entries: &[u64], anew: bool, i: usize) -> u64
+    requires { (i < length entries.now) × (length entries.now ≤ 32) × (anew ≡ crowded entries.now) }
+    ensures { (result < 67108864) × (result ≡ lex_of entries.now (get_or entries.now i 0)) }
 {
-    let place = entry_place(a[i]);
+    let place = entry_place(entries[i]);
     if anew {
-        return places_below(a, n, place);
+        return places_below(entries, place);
     }
     place
 }
 
-// Puts v among the first n of a, which are in order, from the end down to the place of v.
+// Puts v among the first n of a, which are in order, from the end down to the place of v. `partition_point` and `rotate_right` were
+// tried, and take twice as long.
 fn insert(a: &mut [u64; 33], n: usize, v: u64)
     requires { (n < 33) × (length a.old ≡ 33) × Rising (take n a.old) }
     ensures { (length a.new ≡ 33) × (take (n + 1) a.new ≡ insert_by leb v (take n a.old)) }
 {
-    let mut j = n;
-    while 0 < j {
-        let k = j - 1;
+    for k in (0..n).rev() {
         let x = a[k];
         if x < v {
-            a[j] = v;
+            a[k + 1] = v;
             return;
         }
-        a[j] = x;
-        j = k;
+        a[k + 1] = x;
     }
     a[0] = v;
 }
@@ -163,33 +141,30 @@ fn put_branches(a: &mut [u64; 33], n: usize, l: usize, frozen: u8, first: u64, o
     m
 }
 
-// The children of each of the first n entries of a, two or, at a frozen position, one: the best l, in order, become the first of `out`, and
-// the result says how many. A first child goes on by a bit of `bits` at a cost of `firsts`, a second by 1 at a cost of `ones`. What is left
-// out of them is not counted. It works on arrays, since a list by value that is handed to a loop and back is copied both times.
+// The children of each entry, two or, at a frozen position, one: the best l, in order, become the first of `out`, and the result says
+// how many. A first child goes on by a bit of `bits` at a cost of `firsts`, a second by 1 at a cost of `ones`. What is left out of them
+// is not counted. It works on arrays, since a list by value that is handed to a loop and back is copied both times.
 fn put_children(
     out: &mut [u64; 33],
-    a: &[u64; 33],
-    n: usize,
+    entries: &[u64],
     frozen: u8,
     bits: &[u8; 32],
     firsts: &[u32; 32],
     ones: &[u32; 32],
     l: usize,
 ) -> usize
-    requires { (n ≤ 32) × (0 < l) × (l ≤ 33) × (length out.old ≡ 33) × (length a.now ≡ 33) }
+    requires { (length entries.now ≤ 32) × (0 < l) × (l ≤ 33) × (length out.old ≡ 33) }
     ensures { Filled out.new result l
-        (take l (sort_by leb (children_of frozen (take n a.now) bits.now firsts.now ones.now n))) }
+        (take l (sort_by leb (children_of frozen entries.now bits.now firsts.now ones.now (length entries.now)))) }
 {
-    let anew = is_crowded(a, n);
+    let anew = is_crowded(entries);
     let mut m = 0;
-    let mut i = 0;
-    while i < n {
-        let x = lex(a, n, anew, i);
+    for i in 0..entries.len() {
+        let x = lex(entries, anew, i);
         let place = child_place(x, bits[i]);
         let first = entry(firsts[i], place, i);
         let one = entry(ones[i], 2 * x + 1, i);
         m = put_branches(out, m, l, frozen, first, one);
-        i += 1;
     }
     m
 }
@@ -232,22 +207,38 @@ impl Live {
         self
     }
 
+    // The best l children of the entries, in order, by the bits and costs of `put_children`. What is lost is not counted anew.
+    // Inline, since at a call a list that is handed back is copied.
+    #[inline(always)]
+    fn children(
+        &self,
+        frozen: u8,
+        bits: &[u8; 32],
+        firsts: &[u32; 32],
+        ones: &[u32; 32],
+        l: usize,
+    ) -> Self
+        requires { (self.now.count ≤ 32) × (0 < l) × (l ≤ 33) }
+        ensures { Holds result l (take l (sort_by leb (children_of frozen (entries self.now) bits.now firsts.now ones.now self.now.count)))
+            × (result.lost ≡ self.now.lost) }
+    {
+        let mut out = [0u64; 33];
+        let entries = &self.code[..self.count];
+        let count = put_children(&mut out, entries, frozen, bits, firsts, ones, l);
+        Self {
+            count,
+            lost: self.lost,
+            code: out,
+        }
+    }
+
     // The two children of each entry, in order, as many as l + 1 of the best.
     pub fn split(self, zeros: &[u32; 32], ones: &[u32; 32], l: usize) -> Self
         requires { (self.count ≤ 32) × (l ≤ 32) }
         ensures { Split (l + 1) zeros.now ones.now self result }
     {
-        let n = self.count;
-        let lost = self.lost;
-        let code = self.code;
         let bits = [0u8; 32];
-        let mut out = [0u64; 33];
-        let count = put_children(&mut out, &code, n, 0, &bits, zeros, ones, l + 1);
-        Self {
-            count,
-            lost,
-            code: out,
-        }
+        self.children(0, &bits, zeros, ones, l + 1)
     }
 
     // A clear position: each path splits in two, and the best l of the children stay. The best of the others is the one that is cut off.
@@ -263,15 +254,6 @@ impl Live {
         requires { (self.count ≤ l) × (0 < l) × (l ≤ 32) }
         ensures { Position 1 l bits.now costs.now costs.now self result }
     {
-        let n = self.count;
-        let lost = self.lost;
-        let code = self.code;
-        let mut out = [0u64; 33];
-        let count = put_children(&mut out, &code, n, 1, bits, costs, costs, l);
-        Self {
-            count,
-            lost,
-            code: out,
-        }
+        self.children(1, bits, costs, costs, l)
     }
 }

@@ -5,7 +5,7 @@ ghost use Rattle.place.specs.Put.{Put};
 ghost use Rattle.page.specs.Lines.{result_line, refused_line, last_line};
 
 use crate::counts::put_counts;
-use crate::scores::{put_lead, put_score};
+use crate::scores::{put_lead, put_number};
 use columns::put_spaces;
 use place::put_byte;
 use text::put_named;
@@ -16,7 +16,7 @@ pub fn put_result(out: &mut [u8], at: usize, frame: u32, rows: u32, scores: &[i3
     ensures { (Put at (result_line frame rows scores.now) out.old result out.new) × (result ≡ at + 44) }
 {
     let a = put_counts(out, at, frame, rows);
-    let b = put_score(out, a, scores[0]);
+    let b = put_number(out, a, scores[0]);
     let c = put_lead(out, b, scores);
     put_byte(out, c, b'\n')
 }

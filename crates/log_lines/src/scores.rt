@@ -1,41 +1,22 @@
 // The last 26 columns of a record's line, 13 for each of two numbers. Each function returns the place behind what it wrote.
-ghost use Rattle.std.specs.Prelude.{◌≡◌, ◌+◌, ◌≤◌, false, [], ◌∷◌, ◌++◌, length, pos, ◌-ℤ◌, int_lt};
+ghost use Rattle.std.specs.Prelude.{◌≡◌, ◌+◌, ◌≤◌, false, [], ◌∷◌, ◌++◌, length};
 ghost use Rattle.spec.specs.ResultRecord.{rising};
-ghost use Rattle.text.specs.Decimal.{signed_decimal};
 ghost use Rattle.text.specs.Words.{space};
 ghost use Rattle.place.specs.Put.{Put};
 ghost use Rattle.columns.specs.Columns.{right};
 ghost use Rattle.page.specs.Lines.{lead};
 
-use columns::{put_number_right, put_right, put_signed_right};
-use numbers::thirty_two_bits;
+use columns::{put_number_right, put_right};
+use itoa::Integer;
 use place::put_byte;
-use std::num::wrapping_sub_u32;
 
-// A space and a score in 12 columns.
-pub(crate) fn put_score(out: &mut [u8], at: usize, z: i32) -> usize
-    requires { at + 13 ≤ length out.old }
-    ensures { (Put at (space ++ right 12 (signed_decimal z)) out.old result out.new) × (result ≡ at + 13) }
+// A space and a number in 12 columns.
+pub(crate) fn put_number<I: Integer>(out: &mut [u8], at: usize, x: I) -> usize
+    requires { (length (I.text x) ≤ 12) × (at + 13 ≤ length out.old) }
+    ensures { (Put at (space ++ right 12 (I.text x)) out.old result out.new) × (result ≡ at + 13) }
 {
     let gap = put_byte(out, at, b' ');
-    put_signed_right(out, gap, 12, z)
-}
-
-// The difference of two scores that do not rise. It can take all 32 bits.
-fn minus(y: i32, z: i32) -> u32
-    requires { int_lt y z ≡ false }
-    ensures { (y -ℤ z) ≡ pos result }
-{
-    wrapping_sub_u32(thirty_two_bits(y), thirty_two_bits(z))
-}
-
-// A space and the difference of two scores in 12 columns.
-fn put_difference(out: &mut [u8], at: usize, y: i32, z: i32) -> usize
-    requires { (int_lt y z ≡ false) × (at + 13 ≤ length out.old) }
-    ensures { (Put at (space ++ right 12 (signed_decimal (y -ℤ z))) out.old result out.new) × (result ≡ at + 13) }
-{
-    let gap = put_byte(out, at, b' ');
-    put_number_right(out, gap, 12, minus(y, z))
+    put_number_right(out, gap, 12, x)
 }
 
 // A space and `-` in 12 columns.
@@ -47,7 +28,7 @@ fn put_none(out: &mut [u8], at: usize) -> usize
     put_right(out, gap, 12, b"-")
 }
 
-// A space and the difference of the first two scores, or `-` where there is one, in 12 columns.
+// A space and the difference of the first two scores, which do not rise, or `-` where there is one, in 12 columns.
 pub(crate) fn put_lead(out: &mut [u8], at: usize, scores: &[i32]) -> usize
     requires { (rising scores.now ≡ false) × (at + 13 ≤ length out.old) }
     ensures { (Put at (space ++ right 12 (lead scores.now)) out.old result out.new) × (result ≡ at + 13) }
@@ -55,5 +36,5 @@ pub(crate) fn put_lead(out: &mut [u8], at: usize, scores: &[i32]) -> usize
     if scores.len() < 2 {
         return put_none(out, at);
     }
-    put_difference(out, at, scores[0], scores[1])
+    put_number(out, at, scores[0].abs_diff(scores[1]))
 }

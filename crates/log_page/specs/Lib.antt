@@ -5,3 +5,4 @@ pub mod NoSooner
 pub mod Printed
 pub mod Counts
 pub mod Made
+pub mod Stop

@@ -2,8 +2,9 @@
 ghost use Rattle.std.specs.Prelude.{◌≡◌, ◌≤◌};
 ghost use Rattle.log_page.specs.Reading.{extent};
 
+use refusals::Refusal;
 use result_fields::length_of;
-use result_refusals::{Head, read_head};
+use result_refusals::read_head;
 
 // How many bytes of a record are needed to tell what is printed for it, as far as those that are there tell.
 pub fn needed(records: u32, bytes: &[u8]) -> usize
@@ -15,11 +16,10 @@ pub fn needed(records: u32, bytes: &[u8]) -> usize
     if records == 1000 {
         return 1;
     }
-    let head = read_head(bytes);
-    match head {
-        Head::Known(fields, m, rows) => length_of(fields, m, rows as usize),
-        Head::Unfit(k) => {
-            if k == 14 {
+    match read_head(bytes) {
+        Ok(head) => length_of(head.fields, head.m, head.rows as usize),
+        Err(refusal) => {
+            if refusal == Refusal::FieldMap {
                 return 1;
             }
             3

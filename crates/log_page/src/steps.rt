@@ -8,47 +8,48 @@ ghost use Rattle.page.specs.Page.{entry, heard, operator_says};
 ghost use Rattle.log_page.specs.Steps.{last_step, entry_step, step_of};
 ghost use Rattle.log_page.specs.Counts.{Within};
 ghost use Rattle.log_page.specs.Made.{Made};
+ghost use Rattle.log_page.specs.Stop.{number_if};
 
 use log_lines::{put_last, put_refused, put_result};
-use result::{ResultRead, read_result_operator};
+use refusals::Refusal;
+use result::read_result_operator;
+use std::ops::ControlFlow;
 
 // How many records were read, and how many rows they had.
-#[derive(Drop)]
+#[derive(Clone, Copy, Debug, PartialEq, Eq)]
 pub struct Totals {
     pub records: u32,
     pub rows: u32,
 }
 
-// How many bytes were written, whether it was the last step, and what has been read then.
+// How many bytes were written, and what has been read then: the page breaks off there, or goes on with it.
 #[derive(Drop)]
 pub struct LogStep {
     pub count: usize,
-    pub ended: bool,
-    pub totals: Totals,
+    pub flow: ControlFlow<Totals, Totals>,
 }
 
 // A refusal's line, if there is a refusal. Returns the place behind it.
-fn put_refusal(out: &mut [u8], refusal: u32) -> usize
+fn put_refusal(out: &mut [u8], refusal: Option<Refusal>) -> usize
     requires { 44 ≤ length out.old }
-    ensures { (Put 0 (settled refusal refused_line []) out.old result out.new) × (result ≤ 44) }
+    ensures { (Put 0 (settled (number_if refusal) refused_line []) out.old result out.new) × (result ≤ 44) }
 {
-    if refusal == 0 {
-        return 0;
+    match refusal {
+        Some(refusal) => put_refused(out, 0, refusal.number()),
+        None => 0,
     }
-    put_refused(out, 0, refusal)
 }
 
 // The end of the page.
-fn close(totals: Totals, refusal: u32, out: &mut [u8]) -> LogStep
+fn close(totals: Totals, refusal: Option<Refusal>, out: &mut [u8]) -> LogStep
     requires { (Within totals.records totals.rows) × (88 ≤ length out.old) }
-    ensures { Made (last_step totals.records totals.rows refusal) out.old result out.new }
+    ensures { Made (last_step totals.records totals.rows (number_if refusal)) out.old result out.new }
 {
     let at = put_refusal(out, refusal);
     let count = put_last(out, at, totals.records, totals.rows);
     LogStep {
-        count: count,
-        ended: true,
-        totals: totals,
+        count,
+        flow: ControlFlow::Break(totals),
     }
 }
 
@@ -60,12 +61,11 @@ fn enter(totals: Totals, frame: u32, rows: u32, scores: &[i32], out: &mut [u8]) 
 {
     let count = put_result(out, 0, frame, rows, scores);
     LogStep {
-        count: count,
-        ended: false,
-        totals: Totals {
+        count,
+        flow: ControlFlow::Continue(Totals {
             records: totals.records + 1,
             rows: totals.rows + rows,
-        },
+        }),
     }
 }
 
@@ -77,13 +77,12 @@ fn write_record(totals: Totals, bytes: &[u8], out: &mut [u8]) -> LogStep
         out.old result out.new }
 {
     let mut scores = [0i32; 32];
-    let read = read_result_operator(bytes, &mut scores);
-    match read {
-        ResultRead::Refused(k) => close(totals, k, out),
-        ResultRead::Fields(_, rows, frame, _) => {
-            let k = rows as usize;
-            enter(totals, frame, rows, &scores[..k], out)
+    match read_result_operator(bytes, &mut scores) {
+        Ok(head) => {
+            let k = head.rows as usize;
+            enter(totals, head.frame, head.rows, &scores[..k], out)
         }
+        Err(refusal) => close(totals, Some(refusal), out),
     }
 }
 
@@ -93,10 +92,10 @@ pub fn write_step(totals: Totals, bytes: &[u8], out: &mut [u8]) -> LogStep
     ensures { Made (step_of totals.records totals.rows bytes.now) out.old result out.new }
 {
     if bytes.len() == 0 {
-        return close(totals, 0, out);
+        return close(totals, None, out);
     }
     if totals.records == 1000 {
-        return close(totals, 23, out);
+        return close(totals, Some(Refusal::RecordCount), out);
     }
     write_record(totals, bytes, out)
 }

@@ -3,39 +3,31 @@
 
 mod signed;
 
-ghost use Rattle.std.specs.Prelude.{◌≡◌, ◌+◌, ◌*◌, ◌%◌, ◌≤◌, ◌<◌, length};
+ghost use Rattle.std.specs.Prelude.{◌≡◌, ◌+◌, ◌%◌, ◌≤◌, ◌<◌, length};
 ghost use Rattle.spec.specs.Record.{two_at, four_at};
 ghost use Rattle.spec.specs.RecordOf.{low_first};
 ghost use Rattle.place.specs.Put.{Put};
 
-use place::put_byte;
 pub use signed::{signed_four, thirty_two_bits};
 
 pub fn wide(x: u8) -> u32
     ensures { (result ≡ x) × (result < 256) }
 {
-    x as u32
+    u32::from(x)
 }
 
 pub fn two(bytes: &[u8], at: usize) -> u32
     requires { at + 1 < length bytes.now }
     ensures { (result ≡ two_at bytes.now at) × (result < 65536) }
 {
-    wide(bytes[at]) + 256 * wide(bytes[at + 1])
-}
-
-// The number that four bytes make. In a sum of this shape the compiler sees one load.
-fn joined(a: u8, b: u8, c: u8, d: u8) -> u32
-    ensures { result ≡ a + 256 * b + 65536 * (c + 256 * d) }
-{
-    wide(a) + 256 * wide(b) + 65536 * wide(c) + 16777216 * wide(d)
+    u32::from(u16::from_le_bytes([bytes[at], bytes[at + 1]]))
 }
 
 pub fn four(bytes: &[u8], at: usize) -> u32
     requires { at + 3 < length bytes.now }
     ensures { result ≡ four_at bytes.now at }
 {
-    joined(bytes[at], bytes[at + 1], bytes[at + 2], bytes[at + 3])
+    u32::from_le_bytes([bytes[at], bytes[at + 1], bytes[at + 2], bytes[at + 3]])
 }
 
 pub fn low_byte(x: u32) -> u8
@@ -49,13 +41,11 @@ pub fn put_low(out: &mut [u8], at: usize, count: usize, x: u32) -> usize
     requires { at + count ≤ length out.old }
     ensures { (Put at (low_first count x) out.old result out.new) × (result ≤ at + count) }
 {
+    let end = at + count;
     let mut rest = x;
-    let mut next = at;
-    let mut i = 0;
-    while i < count {
-        next = put_byte(out, next, low_byte(rest));
-        rest = rest / 256;
-        i += 1;
+    for b in out[at..end].iter_mut() {
+        *b = low_byte(rest);
+        rest /= 256;
     }
-    next
+    end
 }

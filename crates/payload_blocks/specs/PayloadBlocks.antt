@@ -6,6 +6,7 @@ use Rattle.std.proofs.Math.Path.{ap}
 use mathlib.Core.List.{List, [], ◌∷◌, ◌++◌, map, map-append, map-map}
 use Prim.Native.Nat.{ℕ, zero, suc, ◌+◌, ◌^◌, ◌<◌, ◌≤◌}
 use Rattle.std.proofs.Math.ListN.{length-map}
+use Rattle.std.proofs.lemmas.List.{take-map, drop-map}
 use Rattle.spec.specs.Bits.{Bits}
 use Rattle.spec.specs.Transform.{added}
 use Rattle.spec.specs.Code.{Code, size, payload_size, input_for, encoded}
@@ -75,17 +76,6 @@ block_is c (suc r) q m l =
     ∙ ap (map (encoded c)) (two_blocks a q ps ∙ ap (λ (n : ℕ). take n (drop q ps)) twice)
 
 -- ---- the correlations of a block of words, and of all of them
-module _ {A B : Type 0} (f : A → B) where
-  map_take : (n : ℕ) (xs : List A) → map f (take n xs) ≡ take n (map f xs)
-  map_take zero xs = refl
-  map_take (suc n) [] = refl
-  map_take (suc n) (x ∷ xs) = ap (λ (l : List B). f x ∷ l) (map_take n xs)
-
-  map_drop : (n : ℕ) (xs : List A) → map f (drop n xs) ≡ drop n (map f xs)
-  map_drop zero xs = refl
-  map_drop (suc n) [] = refl
-  map_drop (suc n) (x ∷ xs) = map_drop n xs
-
 module _ (c : Code) (y : List ℤ) where
   -- the correlation of the word of a payload
   abbrev correlated : List ℕ → ℤ
@@ -99,8 +89,8 @@ module _ (c : Code) (y : List ℤ) where
       let ps : List (List ℕ) = payloads (payload_size c) in
       ap (map (correlation y)) (block_is c r q m l)
       ∙ map-map (correlation y) (encoded c) (take (2 ^ r) (drop q ps))
-      ∙ map_take correlated (2 ^ r) (drop q ps)
-      ∙ ap (take (2 ^ r)) (map_drop correlated q ps)
+      ∙ sym (take-map correlated (2 ^ r) (drop q ps))
+      ∙ ap (take (2 ^ r)) (sym (drop-map correlated q ps))
 
   pub length_correlations : length (correlations c y) ≡ 2 ^ payload_size c
   unfolding correlations

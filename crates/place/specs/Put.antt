@@ -1,7 +1,8 @@
 -- Bytes written into a buffer at a place.
 use Rattle.std.specs.Prelude.{◌≡◌, refl, List, [], ◌∷◌, ◌++◌, ℕ, suc, ◌+◌, ◌-◌, ◌≤◌, length, take, drop, set}
-use Rattle.std.proofs.Common.{sym, ap, ap₂, subst, ◌∙◌, add-one, arith, length-append}
+use Rattle.std.proofs.Common.{sym, ap, ap₂, subst, ◌∙◌, add-one, append_assoc, arith, length-append}
 use Rattle.std.proofs.lemmas.List.Edits.{sets, sets-eq}
+use borrow.Rule.Slice.PartMut.{put_mid, Post-is}
 
 -- the bytes t with the text xs from the place `at` on
 unfoldable pub placed : ℕ → List ℕ → List ℕ → List ℕ
@@ -56,6 +57,15 @@ module _ {at next : ℕ} {xs t u : List ℕ} (p : Put at xs t next u) where
   -- the same text, said otherwise
   pub put_same : {ys : List ℕ} → xs ≡ ys → Put at ys t next u
   put_same {ys} e = subst (λ (zs : List ℕ). Put at zs t next u) e p
+
+-- a part of t that holds xs now
+pub put_part : (at next : ℕ) (xs t : List ℕ) → next ≡ at + length xs → next ≤ length t → Put at xs t next (put_mid at (next - at) t xs)
+put_part at next xs t e h = record {
+  place = e;
+  bytes =
+      ap (λ (l : List ℕ). take at t ++ (xs ++ l)) (Post-is at next t (omega arith) ∙ ap (λ (k : ℕ). drop k t) e)
+      ∙ sym (placed_is at xs t (omega arith) ∙ append_assoc (take at t) xs (drop (at + length xs) t));
+}
 
 -- ys is left to write: into u from the place `next` on it completes xs, written into t at `at`
 pub record Left (at : ℕ) (xs t : List ℕ) (next : ℕ) (ys u : List ℕ) : Type 0 where

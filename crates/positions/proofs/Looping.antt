@@ -2,9 +2,8 @@
 use mathlib.Core.Path.{◌≡◌, refl, sym, ap, subst, ◌∙◌}
 use mathlib.Core.Bool.{Bool}
 use mathlib.Core.List.{List, [], ◌∷◌}
-use Prim.Native.Nat.{ℕ, suc, ◌+◌, ◌*◌, ◌<◌, ◌≤◌}
+use Prim.Native.Nat.{ℕ, ◌+◌, ◌*◌, ◌<◌, ◌≤◌}
 use native.Mathlib.Omega.{arith}
-use native.Mathlib.Nat.{mul-le-mul_left}
 use native.Mathlib.Numerals.{add-one}
 use lib.ListN.{length, drop}
 use lib.IntN.{ℤ}
@@ -15,18 +14,13 @@ use Rattle.tables.specs.Start.{Started}
 use Rattle.live.specs.declared.Live.{Live}
 use Rattle.live.specs.Lists.{entries, Holds}
 use Rattle.live.specs.Stands.{Rep}
-use Rattle.positions.specs.Running.{prefix_at, Call, Running, Standing, PositionFits, Owns, Beside, Moves, RunFits, Zeros, Runs}
+use Rattle.positions.specs.Running.{prefix_at, Call, Running, Standing, Owns, Beside, Moves, RunFits, Zeros, Runs}
 use Rattle.rows.specs.PrefixRows.{RowsKept}
-use Rattle.positions.specs.Own.{OwnFits, Owned}
+use Rattle.positions.specs.Own.{Owned}
 use Rattle.positions.proofs.Starting.{standing_start, running_start}
 use Rattle.positions.proofs.Keeping.{kept_on, running_front}
 
-pub record Looping (arikan : Bool) (deep l h n p i at from seen held rows : ℕ) (map pairs t₀ b₀ t b slots : List ℕ) (s : Live) : Type 0 where
-  pub near : i ≤ p
-  pub place : at ≡ 3 * h + l * i
-  pub words : length t ≡ length t₀
-  pub bytes : length b ≡ length b₀
-  pub wide : n * l ≤ rows
+pub record Looping (arikan : Bool) (deep l h n i from seen held : ℕ) (map pairs t₀ b₀ t b slots : List ℕ) (s : Live) : Type 0 where
   pub numbers : length slots ≡ 1024
   pub part : Part from from pairs
   pub reached : Reached (flags_of n map) i from pairs
@@ -37,14 +31,9 @@ pub record Looping (arikan : Bool) (deep l h n p i at from seen held rows : ℕ)
   pub running : (c : Code) (y : List ℤ) → c.arikan ≡ arikan → c.map ≡ map → c.pairs ≡ pairs → Call c y deep → Started arikan deep l h y t₀ → Zeros b₀ → Running c y deep l h i s t b slots
 
 module _ (arikan : Bool) (deep l h n p rows₀ : ℕ) (map pairs t₀ b₀ : List ℕ) (f : RunFits deep l h n p (length t₀) (length b₀) rows₀ map pairs) where
-  pub looping_start : (at rows : ℕ) (slots : List ℕ) (s : Live) → at ≡ 3 * h → rows ≡ rows₀ → length slots ≡ 1024 → Zeros slots → Holds s 1 (0 ∷ []) → Rep 0 ([] ∷ []) (entries s) → s.lost ≡ 4294967295
-      → Looping arikan deep l h n p 0 at 0 0 0 rows map pairs t₀ b₀ t₀ b₀ slots s
-  looping_start at rows slots s e er long none holds rep nothing = record {
-    near = omega arith;
-    place = omega arith;
-    words = refl;
-    bytes = refl;
-    wide = omega (arith, f.wide);
+  pub looping_start : (slots : List ℕ) (s : Live) → length slots ≡ 1024 → Zeros slots → Holds s 1 (0 ∷ []) → Rep 0 ([] ∷ []) (entries s) → s.lost ≡ 4294967295
+      → Looping arikan deep l h n 0 0 0 0 map pairs t₀ b₀ t₀ b₀ slots s
+  looping_start slots s long none holds rep nothing = record {
     numbers = long;
     part = record { whole = f.ruled.whole; begins = refl; ends = refl; order = omega arith; inside = omega arith };
     reached = reached_start (flags_of n map) pairs f.ruled;
@@ -55,38 +44,7 @@ module _ (arikan : Bool) (deep l h n p rows₀ : ℕ) (map pairs t₀ b₀ : Lis
     running = λ c y ea em ep call a zeros. running_start c y deep l h n s t₀ b₀ slots f.sizes call (subst (λ (x : Bool). Started x deep l h y t₀) (sym ea) a) zeros none holds rep nothing;
   }
 
-  module _ (i at from seen held rows : ℕ) (t b slots : List ℕ) (s : Live) (k : Looping arikan deep l h n p i at from seen held rows map pairs t₀ b₀ t b slots s) (hi : i < p) where
-    inside : l * suc i ≤ l * n
-    inside = mul-le-mul_left l (omega (arith, f.stop))
-
-    pub next_room : at + l ≤ length b₀
-    next_room = omega (arith, k.place, f.there, inside)
-
-    pub own_fits : OwnFits l h n i seen held at (length b) rows
-    own_fits = record {
-      list = f.sizes.list;
-      size = f.short;
-      near = f.sizes.near;
-      few = k.few;
-      order = k.order;
-      stop = omega (arith, f.stop);
-      place = k.place;
-      there = omega (arith, k.bytes, k.place, f.there, inside);
-      room = omega (arith, k.bytes, f.room);
-      wide = k.wide;
-    }
-
-    pub position_fits : (bytes : ℕ) → bytes ≡ length b → PositionFits deep l h n i at (length t) bytes (length slots) (length map)
-    position_fits bytes e = record {
-      sizes = f.sizes;
-      inside = omega (arith, f.stop);
-      place = k.place;
-      words = omega (arith, k.words, f.words);
-      room = omega (arith, e, k.bytes, next_room);
-      long = omega (arith, k.numbers);
-      flags = f.flags;
-    }
-
+  module _ (i from seen held : ℕ) (t b slots : List ℕ) (s : Live) (k : Looping arikan deep l h n i from seen held map pairs t₀ b₀ t b slots s) (hi : i < p) where
     module _ (to : ℕ) (part : Part from to pairs) (ends : (flags : List ℕ) → Reached flags i from pairs → RunEnds flags i to pairs)
         (seen' held' : ℕ) (b' own : List ℕ) (eb : length b' ≡ length b) (got : Owned l h n i from to seen held s.count seen' held' pairs b b' own) where
       run : RunEnds (flags_of n map) i to pairs
@@ -101,21 +59,16 @@ module _ (arikan : Bool) (deep l h n p rows₀ : ℕ) (map pairs t₀ b₀ : Lis
           ∙ sym (sum_left (flags_of n map) pairs k.reached w)
           ∙ ap (λ (u : List ℕ). sum_at (pairs_in u) i w) (sym ep)
 
-      pub looping_more : (t' b'' slots' : List ℕ) (rows' : ℕ) (r : Live) → rows' ≡ rows → length t' ≡ length t → length b'' ≡ length b' → length slots' ≡ length slots
-          → Standing deep l r slots' → Beside (3 * h) at l b' b'' → Moves arikan deep l h i map own s t b' slots r t' b'' slots'
-          → Looping arikan deep l h n p (i + 1) (at + l) to seen' held' rows' map pairs t₀ b₀ t' b'' slots' r
-      looping_more t' b'' slots' rows' r er et eb' es st side mv = record {
-        near = omega arith;
-        place = omega (arith, k.place);
-        words = et ∙ k.words;
-        bytes = eb' ∙ eb ∙ k.bytes;
-        wide = omega (arith, k.wide);
+      pub looping_more : (t' b'' slots' : List ℕ) (r : Live) → length b'' ≡ length b' → length slots' ≡ length slots
+          → Standing deep l r slots' → Beside (3 * h) (3 * h + l * i) l b' b'' → Moves arikan deep l h i map own s t b' slots r t' b'' slots'
+          → Looping arikan deep l h n (i + 1) to seen' held' map pairs t₀ b₀ t' b'' slots' r
+      looping_more t' b'' slots' r eb' es st side mv = record {
         numbers = es ∙ k.numbers;
         part = record { whole = part.whole; begins = part.ends; ends = part.ends; order = omega arith; inside = part.inside };
         reached = subst (λ (j : ℕ). Reached (flags_of n map) j to pairs) (sym (add-one i)) run.next;
         few = got.few;
         order = omega (arith, got.order);
-        kept = kept_on l h n i seen' held' at b' b'' k.place got.order (omega (arith, f.stop)) eb' side (got.kept k.kept);
+        kept = kept_on l h n i seen' held' (3 * h + l * i) b' b'' refl got.order (omega (arith, f.stop)) eb' side (got.kept k.kept);
         standing = st;
         running = λ c y ea em ep call a zeros.
             let old : Running c y deep l h i s t b slots = k.running c y ea em ep call a zeros in
@@ -123,9 +76,9 @@ module _ (arikan : Bool) (deep l h n p rows₀ : ℕ) (map pairs t₀ b₀ : Lis
             (mv c y ea em (owns c y ep old) (running_front c y deep l h n i s t b b' slots (omega (arith, f.stop)) eb got.front old));
       }
 
-pub looping_end : (arikan : Bool) (deep l h n p i at from seen held rows : ℕ) (map pairs t₀ b₀ t b slots : List ℕ) (s : Live) → i ≡ p
-    → Looping arikan deep l h n p i at from seen held rows map pairs t₀ b₀ t b slots s → Runs arikan deep l h p map pairs t₀ b₀ s t b
-looping_end arikan deep l h n p i at from seen held rows map pairs t₀ b₀ t b slots s e k = record {
+pub looping_end : (arikan : Bool) (deep l h n p i from seen held : ℕ) (map pairs t₀ b₀ t b slots : List ℕ) (s : Live) → i ≡ p
+    → Looping arikan deep l h n i from seen held map pairs t₀ b₀ t b slots s → Runs arikan deep l h p map pairs t₀ b₀ s t b
+looping_end arikan deep l h n p i from seen held map pairs t₀ b₀ t b slots s e k = record {
   few = k.standing.few;
   ran = λ c y ea em ep call a zeros.
       record { slots = slots; running = subst (λ (j : ℕ). Running c y deep l h j s t b slots) e (k.running c y ea em ep call a zeros) };

@@ -27,22 +27,16 @@ pub fn positions(
 {
     let mut slots = [0u8; 1024];
     let mut s = Live::start();
-    let mut at = 3 * h;
     let mut from = 0;
     let mut kept = Kept { seen: 0, held: 0 };
-    let mut i = 0;
-    while i < p {
+    for i in 0..p {
         let to = run_end(pairs, from, i);
         let mut bits = [0u8; 32];
         kept = own_bits(
-            b, rows, pairs, from, to, i, kept, at, l, h, n, s.count, &mut bits,
+            b, rows, pairs, from, to, i, kept, l, h, n, s.count, &mut bits,
         );
-        s = position(
-            t, b, &mut slots, map, &bits, s, i, at, deep, l, h, n, arikan,
-        );
+        s = position(t, b, &mut slots, map, &bits, s, i, deep, l, h, n, arikan);
         from = to;
-        at += l;
-        i += 1;
     }
     s
 }

@@ -7,7 +7,6 @@ ghost use Rattle.positions.specs.Own.{by_bit, Over, own_sum, OwnFits, Renewed, O
 
 use code::frozen_bit;
 use rows::renew::renew_rows;
-use slices::{copy, times};
 
 // The rows that are kept: the prefixes of the first `held` ranks after `seen` positions.
 #[derive(Drop)]
@@ -22,19 +21,17 @@ fn renew(
     rows: &mut [u8],
     i: usize,
     kept: Kept,
-    at: usize,
     l: usize,
     h: usize,
     n: usize,
     count: usize,
 )
-    requires { OwnFits l h n i kept.seen kept.held at (length b.old) (length rows.old) × (count ≤ l) }
+    requires { OwnFits l h n i kept.seen kept.held (3 * h + l * i) (length b.old) (length rows.old) × (count ≤ l) }
     ensures { Renewed l h n i kept.seen kept.held count b.old b.new rows.new }
 {
     let k = 3 * h;
-    let past = at - k;
-    let notes = times(l, n);
-    let bytes = times(n, count);
+    let notes = l * n;
+    let bytes = n * count;
     renew_rows(
         rows,
         &b[k..],
@@ -43,12 +40,12 @@ fn renew(
         kept.seen,
         kept.held,
         i,
-        past,
+        l * i,
         notes,
         count,
     );
     let from = k + notes;
-    copy(&rows[..bytes], &mut b[from..from + bytes]);
+    b[from..from + bytes].copy_from_slice(&rows[..bytes]);
 }
 
 // The sums of the first count paths at position i, whose prefixes are in rows of n bytes; the pairs of i lie from `from` to `to`.
@@ -65,12 +62,9 @@ fn sum_rows(
     requires { Part from to pairs.now × (count ≤ 32) × (i ≤ n) × (n ≤ 1024) × (n * count ≤ length rows.now) × (length bits.old ≡ 32) }
     ensures { Over to i pairs.now → Wrote (own_sum from i n pairs.now rows.now) 0 count bits.old bits.new }
 {
-    let mut r = 0;
-    let mut at = 0;
-    while r < count {
+    for r in 0..count {
+        let at = n * r;
         bits[r] = frozen_bit(pairs, from, to, i, &rows[at..at + i]);
-        r += 1;
-        at += n;
     }
 }
 
@@ -84,20 +78,19 @@ pub(crate) fn own_bits(
     to: usize,
     i: usize,
     kept: Kept,
-    at: usize,
     l: usize,
     h: usize,
     n: usize,
     count: usize,
     bits: &mut [u8; 32],
 ) -> Kept
-    requires { OwnFits l h n i kept.seen kept.held at (length b.old) (length rows.old) × Part from to pairs.now × (count ≤ l) × (bits.old ≡ replicate 32 0) }
+    requires { OwnFits l h n i kept.seen kept.held (3 * h + l * i) (length b.old) (length rows.old) × Part from to pairs.now × (count ≤ l) × (bits.old ≡ replicate 32 0) }
     ensures { Owned l h n i from to kept.seen kept.held count result.seen result.held pairs.now b.old b.new bits.new }
 {
     if from == to {
         return kept;
     }
-    renew(b, rows, i, kept, at, l, h, n, count);
+    renew(b, rows, i, kept, l, h, n, count);
     sum_rows(rows, pairs, from, to, i, n, count, bits);
     Kept {
         seen: i,
@@ -108,10 +101,7 @@ pub(crate) fn own_bits(
 fn pick(b: u8, zero: u32, one: u32) -> u32
     ensures { result ≡ by_bit (b % 2) zero one }
 {
-    if b % 2 == 0 {
-        return zero;
-    }
-    one
+    if b % 2 == 0 { zero } else { one }
 }
 
 // The costs of the first count paths by their bits: `costs` has them with 0, and gets those with 1 where the bit is 1.
@@ -120,9 +110,7 @@ pub(crate) fn own_costs(costs: &mut [u32; 32], bits: &[u8; 32], ones: &[u32; 32]
     ensures { Wrote (λ k. by_bit (get_or bits.now k 0 % 2) (get_or costs.old k 0) (get_or ones.now k 0))
         0 count costs.old costs.new }
 {
-    let mut r = 0;
-    while r < count {
+    for r in 0..count {
         costs[r] = pick(bits[r], costs[r], ones[r]);
-        r += 1;
     }
 }

@@ -1,14 +1,13 @@
 // One position: every live path goes on by a bit or splits in two, the best stay, and the tables follow.
-ghost use Rattle.std.specs.Prelude.{◌≡◌, ◌*◌, ◌≤◌, length, get_or};
+ghost use Rattle.std.specs.Prelude.{◌≡◌, ◌+◌, ◌*◌, ◌≤◌, length, get_or};
 ghost use Rattle.spec.specs.Bits.{unpacked};
-ghost use Rattle.live.specs.Entries.{parent_of};
 ghost use Rattle.positions.specs.Position.{Chosen, ChooseFits, Lineage, Settled, SettleFits};
 ghost use Rattle.positions.specs.Running.{PositionFits, Standing, Beside, Moves};
 
 use crate::history::note;
 use crate::own::own_costs;
 use code::flag;
-use live::{Live, entry_bit};
+use live::{Live, entry_bit, entry_parent};
 use tables::cut::cut_slots;
 use tables::top::{top_bits, top_costs};
 use tables::walk::advance;
@@ -39,22 +38,14 @@ fn choose(
     s.freeze(bits, &zeros, l)
 }
 
-fn parent_byte(code: u64) -> u8
-    ensures { result ≡ parent_of code }
-{
-    (code % 32) as u8
-}
-
 // The parent and the last bit of each of the first count entries.
 fn lineage(code: &[u64; 33], count: usize, parents: &mut [u8; 32], bits: &mut [u8; 32])
     requires { (count ≤ 32) × (count ≤ length code.now) × (length parents.old ≡ 32) × (length bits.old ≡ 32) }
     ensures { Lineage count code.now parents.new bits.new }
 {
-    let mut r = 0;
-    while r < count {
-        parents[r] = parent_byte(code[r]);
+    for r in 0..count {
+        parents[r] = entry_parent(code[r]) as u8;
         bits[r] = entry_bit(code[r]);
-        r += 1;
     }
 }
 
@@ -91,22 +82,21 @@ pub(crate) fn position(
     bits: &[u8; 32],
     s: Live,
     i: usize,
-    at: usize,
     deep: usize,
     l: usize,
     h: usize,
     n: usize,
     arikan: bool,
 ) -> Live
-    requires { PositionFits deep l h n i at (length t.old) (length b.old) (length slots.old) (length map.now) × Standing deep l s slots.old }
-    ensures { Standing deep l result slots.new × Beside (3 * h) at l b.old b.new
+    requires { PositionFits deep l h n i (3 * h + l * i) (length t.old) (length b.old) (length slots.old) (length map.now) × Standing deep l s slots.old }
+    ensures { Standing deep l result slots.new × Beside (3 * h) (3 * h + l * i) l b.old b.new
         × Moves arikan deep l h i map.now bits.now s t.old b.old slots.old result t.new b.new slots.new }
 {
     let k = 3 * h;
     let next = choose(t, &b[..k], slots, map, bits, s, i, l, h);
     let count = next.count;
     let code = next.code;
-    settle(b, slots, &code, count, i, at, deep, l, h);
+    settle(b, slots, &code, count, i, k + l * i, deep, l, h);
     advance(t, &mut b[..k], slots, i, deep, count, l, h, n, arikan);
     next
 }

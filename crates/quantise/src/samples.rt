@@ -27,7 +27,7 @@ fn float_of(bits: u32) -> f32
     ensures { result ≡ of_bits binary32 bits }
 {
     if is_nan(bits) {
-        return 0.0 / 0.0;
+        return f32::NAN;
     }
     f32::from_bits(bits)
 }
@@ -40,7 +40,7 @@ fn sample_of(bytes: &[u8]) -> Sample
 {
     let re = float_of(four(bytes, 0));
     let im = float_of(four(bytes, 4));
-    Sample { re: re, im: im }
+    Sample { re, im }
 }
 
 // The quantiser of one sample: its two soft values, from a place on.
@@ -58,12 +58,9 @@ pub(crate) fn write_pairs(bytes: &[u8], pairs: usize, soft: &mut [i16])
     requires { (length soft.old ≡ 2 * pairs) × (8 * pairs ≤ length bytes.now) × (pairs ≤ 512) }
     ensures { soft.new ≡ soft_pairs bytes.now 0 pairs }
 {
-    let mut j = 0;
-    while j < pairs {
+    for j in 0..pairs {
         let from = 8 * j;
-        let to = from + 8;
-        let s = sample_of(&bytes[from..to]);
+        let s = sample_of(&bytes[from..from + 8]);
         quantise_sample(s, soft, 2 * j);
-        j += 1;
     }
 }

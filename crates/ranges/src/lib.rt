@@ -2,36 +2,36 @@
 // soft value is taken as, and its magnitude.
 #![tactic(auto)]
 
-ghost use Rattle.std.specs.Prelude.{◌≡◌, false, ◌||◌, ◌<◌, length, get_or, pos, nat_abs};
+ghost use Rattle.std.specs.Prelude.{◌≡◌, false, ◌<◌, length, get_or, pos, nat_abs};
 ghost use Rattle.spec.specs.Faults.{first, some};
 ghost use Rattle.spec.specs.Score.{saturated, taken};
 ghost use Rattle.spec.specs.Refusals.{out_of_range};
+ghost use Rattle.refusals.specs.Number.{refused};
 ghost use Rattle.ranges.specs.Ranges.{range_faults, soft_faults};
 
-// Refusals 4 and 5, or 0: list size l and stop position p for n positions.
-pub fn range_refusal(n: usize, l: u32, p: u32) -> u32
-    ensures { result ≡ first (range_faults n l p) }
+use refusals::Refusal;
+
+// Refusals 4 and 5: list size l and stop position p for n positions.
+pub fn check_range(n: usize, l: u32, p: u32) -> Result<(), Refusal>
+    ensures { refused result ≡ first (range_faults n l p) }
 {
     if l < 1 {
-        return 4;
+        return Err(Refusal::ListSize);
     }
     if l > 32 {
-        return 4;
+        return Err(Refusal::ListSize);
     }
     if n < p as usize {
-        return 5;
+        return Err(Refusal::StopPosition);
     }
-    0
+    Ok(())
 }
 
 // A soft value that is out of range.
 pub fn out_of_range(y: i16) -> bool
     ensures { result ≡ out_of_range y }
 {
-    if y < -2048 {
-        return true;
-    }
-    y > 2047
+    y < -2048 || y > 2047
 }
 
 // A soft value in range, as it is taken. Of these only −2,048 is below −2,047; a bound is what vector instructions have.
@@ -39,10 +39,7 @@ pub fn saturated(y: i16) -> i16
     requires { out_of_range y ≡ false }
     ensures { result ≡ saturated y }
 {
-    if y < -2047 {
-        return -2047;
-    }
-    y
+    y.max(-2047)
 }
 
 // The soft value of position i, as it is taken.
@@ -53,49 +50,33 @@ pub fn taken_at(soft: &[i16], i: usize) -> i16
     saturated(soft[i])
 }
 
-// One of two tests holds.
-pub fn either(a: bool, b: bool) -> bool
-    ensures { result ≡ (a || b) }
-{
-    if a {
-        return true;
-    }
-    b
-}
-
 // All values are looked at, and none ends the loop: so it runs in vector instructions.
 fn some_out_of_range(soft: &[i16]) -> bool
     ensures { result ≡ some out_of_range soft.now }
 {
     let mut outside = false;
-    let mut i = 0;
-    while i < soft.len() {
-        outside = either(outside, out_of_range(soft[i]));
-        i += 1;
+    for y in soft {
+        outside |= out_of_range(*y);
     }
     outside
 }
 
-// Refusals 6 and 7, or 0: soft values for n positions.
-pub fn soft_refusal(n: usize, soft: &[i16]) -> u32
-    ensures { result ≡ first (soft_faults n soft.now) }
+// Refusals 6 and 7: soft values for n positions.
+pub fn check_soft(n: usize, soft: &[i16]) -> Result<(), Refusal>
+    ensures { refused result ≡ first (soft_faults n soft.now) }
 {
     if soft.len() != n {
-        return 6;
+        return Err(Refusal::GivenLength);
     }
     if some_out_of_range(soft) {
-        return 7;
+        return Err(Refusal::SoftValue);
     }
-    0
+    Ok(())
 }
 
 // The magnitude of one soft value.
 pub fn magnitude_of(y: i16) -> u32
     ensures { result ≡ nat_abs y }
 {
-    if y < 0 {
-        ((-1 - y) as u32) + 1
-    } else {
-        y as u32
-    }
+    u32::from(y.unsigned_abs())
 }

@@ -8,8 +8,8 @@ ghost use Rattle.readings.specs.Parts.{part_of, Sound, soft_part};
 
 use steps::in_steps;
 
-// A part is a reading or, where it is a NaN, a gap.
-#[derive(Drop)]
+// A part is a reading or, where it is a NaN, a gap. An enum of its own and no `Option`, since the rules name this form.
+#[derive(Clone, Copy)]
 pub enum Part {
     Reading(f32),
     Gap,
@@ -18,18 +18,19 @@ pub enum Part {
 fn part_of(x: f32) -> Part
     ensures { result ≡ part_of x }
 {
-    if x != x {
-        return Part::Gap;
+    if x.is_nan() {
+        Part::Gap
+    } else {
+        Part::Reading(x)
     }
-    Part::Reading(x)
 }
 
 // A gap says nothing for either bit.
-fn soft_value(p: Part) -> i16
-    requires { Sound p }
-    ensures { result ≡ soft_part p }
+fn soft_value(part: Part) -> i16
+    requires { Sound part }
+    ensures { result ≡ soft_part part }
 {
-    match p {
+    match part {
         Part::Reading(x) => in_steps(x),
         Part::Gap => 0,
     }

@@ -1,13 +1,13 @@
 -- What a writer's answers mean: the length or the number that 02 gives for each case.
-use Rattle.std.specs.Prelude.{List, ℕ}
+use Rattle.std.specs.Prelude.{List, ℕ, Result, Ok, Err}
 use Rattle.spec.specs.Outcome as spec
-use Rattle.record_writer.specs.declared.length.Length.{Length}
-use Rattle.record_writer.specs.declared.length.Length.TheVariants.{Bytes, Refused}
+use Rattle.refusals.specs.declared.Refusal.{Refusal}
+use Rattle.refusals.specs.Number.{number_of}
 use Rattle.record_writer.specs.declared.length.RecordLength.{RecordLength}
 
-abbrev pub length_of : Length → spec.Length
-length_of (Bytes k) = spec.long k
-length_of (Refused k) = spec.refused_length k
+abbrev pub length_of : Result ℕ Refusal → spec.Length
+length_of (Ok k) = spec.long k
+length_of (Err e) = spec.refused_length (number_of e)
 
 -- ---- for a host that has no enum: 0 and the length, or the refusal number and 0
 abbrev pub host_length : spec.Length → RecordLength

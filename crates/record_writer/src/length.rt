@@ -1,14 +1,10 @@
-// What a writer answers: the length of the record that it wrote, or the refusal number.
+// What a writer answers, the length of the record that it wrote, for a host that has no enum.
 ghost use Rattle.std.specs.Prelude.{◌≡◌};
 ghost use Rattle.record_writer.specs.Answer.{length_of, host_length};
 
-#[derive(Drop)]
-pub enum Length {
-    Bytes(u32),
-    Refused(u32),
-}
+use refusals::Refusal;
 
-// The same for a host that has no enum: 0 and the length; else the refusal number, and 0.
+// 0 and the length; else the refusal number, and 0.
 #[repr(C)]
 #[derive(Drop)]
 pub struct RecordLength {
@@ -16,17 +12,16 @@ pub struct RecordLength {
     pub length: u32,
 }
 
-pub fn length_for_host(answer: Length) -> RecordLength
-    ensures { result ≡ host_length (length_of answer) }
-{
-    match answer {
-        Length::Bytes(k) => RecordLength {
-            refusal: 0,
-            length: k,
-        },
-        Length::Refused(k) => RecordLength {
-            refusal: k,
-            length: 0,
-        },
+impl From<Result<u32, Refusal>> for RecordLength {
+    ghost from_gives = { λ answer told. told ≡ host_length (length_of answer) };
+
+    fn from(answer: Result<u32, Refusal>) -> RecordLength {
+        match answer {
+            Ok(length) => RecordLength { refusal: 0, length },
+            Err(refusal) => RecordLength {
+                refusal: refusal.number(),
+                length: 0,
+            },
+        }
     }
 }

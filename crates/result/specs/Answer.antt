@@ -1,13 +1,14 @@
 -- What the readers' answers mean: the values or the number that 02 gives for each case.
-use Rattle.std.specs.Prelude.{List, ℕ, ℤ, pos}
+use Rattle.std.specs.Prelude.{List, ℕ, ℤ, pos, Result, Ok, Err}
 use Rattle.spec.specs.ResultRecord.{ResultAnswer, result_says, refused_result, OperatorReading, CustomerReading}
-use Rattle.result.specs.declared.ResultRead.{ResultRead}
-use Rattle.result.specs.declared.ResultRead.TheVariants.{Fields, Refused}
+use Rattle.refusals.specs.declared.Refusal.{Refusal}
+use Rattle.refusals.specs.Number.{number_of}
+use Rattle.result.specs.declared.ResultHead.{ResultHead}
 use Rattle.result.specs.declared.host.ResultFields.{ResultFields}
 
-abbrev pub answer_of : ResultRead → ResultAnswer
-answer_of (Fields m rows frame ceiling) = result_says m rows frame ceiling
-answer_of (Refused k) = refused_result k
+abbrev pub answer_of : Result ResultHead Refusal → ResultAnswer
+answer_of (Ok h) = result_says h.m h.rows h.frame h.ceiling
+answer_of (Err e) = refused_result (number_of e)
 
 -- ---- for a host that has no enum: 0 and the fields, or the refusal number and 0 in each field
 abbrev pub fields_of : ResultAnswer → ResultFields

@@ -1,9 +1,9 @@
-// The readers for a host that has no enum: the answer as five numbers.
+// What a reader answers, for a host that has no enum: five numbers.
 ghost use Rattle.std.specs.Prelude.{◌≡◌};
-ghost use Rattle.spec.specs.ResultRecord.{operator_outcome, customer_outcome};
-ghost use Rattle.result.specs.Answer.{answer_of, fields_of, host_customer, host_operator, customer_for_host, operator_for_host};
+ghost use Rattle.result.specs.Answer.{answer_of, fields_of};
 
-use crate::{ResultRead, read_result, read_result_operator};
+use crate::ResultHead;
+use refusals::Refusal;
 
 // 0 and the fields of a record that is read; else the refusal number, and 0 in each field.
 #[repr(C)]
@@ -16,40 +16,25 @@ pub struct ResultFields {
     pub ceiling: i32,
 }
 
-fn fields_for_host(answer: ResultRead) -> ResultFields
-    ensures { result ≡ fields_of (answer_of answer) }
-{
-    match answer {
-        ResultRead::Fields(m, rows, frame, ceiling) => ResultFields {
-            refusal: 0,
-            m: m,
-            rows: rows,
-            frame: frame,
-            ceiling: ceiling,
-        },
-        ResultRead::Refused(k) => ResultFields {
-            refusal: k,
-            m: 0,
-            rows: 0,
-            frame: 0,
-            ceiling: 0,
-        },
+impl From<Result<ResultHead, Refusal>> for ResultFields {
+    ghost from_gives = { λ answer told. told ≡ fields_of (answer_of answer) };
+
+    fn from(answer: Result<ResultHead, Refusal>) -> ResultFields {
+        match answer {
+            Ok(head) => ResultFields {
+                refusal: 0,
+                m: head.m,
+                rows: head.rows,
+                frame: head.frame,
+                ceiling: head.ceiling,
+            },
+            Err(refusal) => ResultFields {
+                refusal: refusal.number(),
+                m: 0,
+                rows: 0,
+                frame: 0,
+                ceiling: 0,
+            },
+        }
     }
-}
-
-// read_result_operator, answered by ResultFields.
-pub fn read_result_operator_fields(bytes: &[u8], scores: &mut [i32]) -> ResultFields
-    ensures { host_operator result scores.new ≡ operator_for_host (operator_outcome bytes.now scores.old) }
-{
-    let answer = read_result_operator(bytes, scores);
-    fields_for_host(answer)
-}
-
-// read_result, answered by ResultFields.
-pub fn read_result_fields(bytes: &[u8], scores: &mut [i32], inputs: &mut [u8]) -> ResultFields
-    ensures { host_customer result scores.new inputs.new
-        ≡ customer_for_host (customer_outcome bytes.now scores.old inputs.old) }
-{
-    let answer = read_result(bytes, scores, inputs);
-    fields_for_host(answer)
 }

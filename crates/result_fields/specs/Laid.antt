@@ -1,7 +1,6 @@
 -- What is known of a layout of a result record whose shape is right, and of the fields that it may have.
-use Rattle.std.specs.Prelude.{◌≡◌, List, length}
-use Prim.Native.Nat.{ℕ, suc, ◌+◌, ◌-◌, ◌/◌, ◌%◌, ◌≤◌, ◌<◌}
-use Rattle.std.proofs.Common.{arith}
+use Rattle.std.specs.Prelude.{◌≡◌, List, ℕ, zero, suc, ◌+◌, ◌-◌, ◌*◌, ◌/◌, ◌%◌, ◌≤◌, ◌<◌, length, get_or, pos}
+use Rattle.std.proofs.Common.{ap, ◌∙◌, arith}
 use Rattle.spec.specs.Record.{fields, exponent, positions, four_at, signed32}
 use Rattle.spec.specs.ResultRecord.{scores_from, first_score, ceiling_at, scores_at, row_count, packed_at, result_scores}
 use Rattle.laws.specs.ResultReading.{ShapedResult}
@@ -33,3 +32,12 @@ module _ {s : List ℕ} (w : ShapedResult s) where
 
   pub first_within : scores_at (fields s) + 3 < length s
   first_within = omega (arith, w.ends, w.some_rows)
+
+-- the number where a score is
+pub score_is : (s : List ℕ) (at n i : ℕ) → i < n → signed32 (four_at s (at + 4 * i)) ≡ get_or (scores_from s at n) i (pos 0)
+unfolding scores_from
+score_is s at (suc n) zero h = let e : at + 4 * 0 ≡ at = omega arith in rw e
+score_is s at (suc n) (suc i) h =
+    let e : at + 4 * suc i ≡ at + 4 + 4 * i = omega arith in
+    ap (λ (k : ℕ). signed32 (four_at s k)) e ∙ score_is s (at + 4) n i (omega arith)
+score_is s at zero i h = absurd (omega arith)

@@ -1,8 +1,10 @@
-// The parts of a result record before its packed rows: where they lie, and what they say.
+// The parts of a result record: where they lie, and what they say.
 #![tactic(auto)]
 
-mod fields;
 mod layout;
+mod record;
+mod rising;
 
-pub use fields::{ceiling_of, first_score, frame_number};
 pub use layout::{Layout, length_of, scores_at};
+pub use record::ResultRecord;
+pub use rising::scores_rise;

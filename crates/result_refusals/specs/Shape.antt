@@ -1,15 +1,13 @@
 -- The shape of a result record: what is known of it once its first three bytes are read, and what the answer says.
-use Rattle.std.specs.Prelude.{◌≡◌, List, ℕ, ◌+◌, ◌*◌, ◌^◌, ◌≤◌, length}
+use Rattle.std.specs.Prelude.{◌≡◌, List, ℕ, ◌+◌, ◌*◌, ◌^◌, ◌≤◌, length, Result, Ok, Err}
 use Rattle.spec.specs.Code.{map_bytes}
 use Rattle.spec.specs.Faults.{Fault, first}
 use Rattle.spec.specs.Record.{fields, exponent}
 use Rattle.spec.specs.ResultRecord.{scores_at, row_count, result_end, result_head_faults}
-use Rattle.laws.specs.FirstFault.{Refuses}
-use Rattle.result_fields.specs.Laid.{Laid}
+use Rattle.refusals.specs.declared.Refusal.{Refusal}
+use Rattle.refusals.specs.Number.{number_of}
+use Rattle.result_fields.specs.declared.record.ResultRecord.{ResultRecord}
 use Rattle.result_refusals.specs.declared.head.Head.{Head}
-use Rattle.result_refusals.specs.declared.head.Head.TheVariants.{Known, Unfit}
-use Rattle.result_refusals.specs.declared.shape.Located.{Located}
-use Rattle.result_refusals.specs.declared.shape.Located.TheVariants.{At, Refused}
 
 module _ (s : List ℕ) where
   -- the map of fields, m and the row count are read, and in range
@@ -24,15 +22,15 @@ module _ (s : List ℕ) where
     pub some_rows : 1 ≤ row_count s
     pub few_rows : row_count s ≤ 32
 
-  -- an answer about the head: the three numbers, if none of its conditions applies, or the number of the first that does
-  abbrev pub HeadFound : Head → Type 0
-  HeadFound (Known f m k) = Headed f m k × (0 ≡ first (result_head_faults s))
-  HeadFound (Unfit k) = Refuses (result_head_faults s) k
+  -- an answer about the head: the three numbers, if none of its conditions applies, or the first that does
+  abbrev pub HeadFound : Result Head Refusal → Type 0
+  HeadFound (Ok h) = Headed h.fields h.m h.rows × (0 ≡ first (result_head_faults s))
+  HeadFound (Err e) = number_of e ≡ first (result_head_faults s)
 
-  -- an answer: where the parts lie, if none of the conditions applies, or the number of the first that does
-  abbrev pub Found : List Fault → Located → Type 0
-  Found fs (At at) = Laid s at × (0 ≡ first fs)
-  Found fs (Refused k) = Refuses fs k
+  -- an answer: the record with its layout, if none of the conditions applies, or the first that does
+  abbrev pub Found : List Fault → Result ResultRecord Refusal → Type 0
+  Found fs (Ok r) = (r.bytes.now ≡ s) × (0 ≡ first fs)
+  Found fs (Err e) = number_of e ≡ first fs
 
 -- where a record with this head must end
 pub end_is : {s : List ℕ} {f m k : ℕ} → Headed s f m k → scores_at f + 4 * k + k * map_bytes (2 ^ m) ≡ result_end s

@@ -1,4 +1,4 @@
--- The loop over the scores of a record, as laws of lists: one turn, and the end. Assumes nothing.
+-- Whether the scores of a record rise, from any of them on, as laws of lists: one turn, and the end. Assumes nothing.
 use Rattle.std.specs.Prelude.{◌≡◌, Bool, false, ◌||◌, List}
 use Rattle.std.proofs.Common.{ap}
 use Prim.Native.Nat.{ℕ, suc, ◌+◌, ◌-◌, ◌*◌, ◌<◌}

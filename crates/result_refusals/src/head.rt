@@ -1,43 +1,43 @@
 // The first three bytes of a record: its map of fields, m and the row count.
 ghost use Rattle.result_refusals.specs.Shape.{HeadFound};
 
-use numbers::wide;
+use refusals::Refusal;
 
-// The three numbers, or what a record that begins with these bytes is refused for whatever follows; 13 where fewer than three are there and
-// the first of them is right.
-#[derive(Drop)]
-pub enum Head {
-    Known(u32, u32, u32),
-    Unfit(u32),
+#[derive(Clone, Copy, Debug, PartialEq, Eq)]
+pub struct Head {
+    pub fields: u32,
+    pub m: u32,
+    pub rows: u32,
 }
 
-// Refusals 13, 14, 13, 1 and 4.
-pub fn read_head(bytes: &[u8]) -> Head
+// Refusals 13, 14, 13, 1 and 4: what a record that begins with these bytes is refused for whatever follows; 13 where fewer than three are
+// there and the first of them is right.
+pub fn read_head(bytes: &[u8]) -> Result<Head, Refusal>
     ensures { HeadFound bytes.now result }
 {
     if bytes.len() == 0 {
-        return Head::Unfit(13);
+        return Err(Refusal::RecordLength);
     }
-    let fields = wide(bytes[0]);
+    let fields = u32::from(bytes[0]);
     if fields > 3 {
-        return Head::Unfit(14);
+        return Err(Refusal::FieldMap);
     }
     if bytes.len() < 3 {
-        return Head::Unfit(13);
+        return Err(Refusal::RecordLength);
     }
-    let m = wide(bytes[1]);
+    let m = u32::from(bytes[1]);
     if m < 2 {
-        return Head::Unfit(1);
+        return Err(Refusal::Exponent);
     }
     if m > 10 {
-        return Head::Unfit(1);
+        return Err(Refusal::Exponent);
     }
-    let rows = wide(bytes[2]);
+    let rows = u32::from(bytes[2]);
     if rows < 1 {
-        return Head::Unfit(4);
+        return Err(Refusal::ListSize);
     }
     if rows > 32 {
-        return Head::Unfit(4);
+        return Err(Refusal::ListSize);
     }
-    Head::Known(fields, m, rows)
+    Ok(Head { fields, m, rows })
 }

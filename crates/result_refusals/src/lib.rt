@@ -10,56 +10,44 @@ ghost use Rattle.spec.specs.Faults.{first};
 ghost use Rattle.spec.specs.Record.{positions};
 ghost use Rattle.spec.specs.ResultRecord.{some_past, row_count, packed_part};
 ghost use Rattle.laws.specs.ResultReading.{operator_rest, customer_rest};
-ghost use Rattle.result_fields.specs.Laid.{Laid};
+ghost use Rattle.refusals.specs.Number.{refused};
 
 pub use head::{Head, read_head};
 use packed_rows::some_high;
-use result_fields::Layout;
-pub use shape::{Located, locate};
+use refusals::Refusal;
+use result_fields::ResultRecord;
+pub use shape::locate;
 use slices::times;
-use values::value_refusal;
+use values::check_values;
 
-// Behind those of the shape, the operator reader's refusals 22 and 10, or 0: so many scores are lent. No byte behind the scores is looked at.
-pub fn operator_refusal(bytes: &[u8], at: Layout, scores: usize) -> u32
-    requires { Laid bytes.now at }
-    ensures { result ≡ first (operator_rest bytes.now scores) }
+// Behind those of the shape, the operator reader's refusals 22 and 10: so many scores are lent. No byte behind the scores is looked at.
+pub fn check_operator(given: ResultRecord<'_>, scores: usize) -> Result<(), Refusal>
+    ensures { refused result ≡ first (operator_rest given.entry.bytes.now scores) }
 {
-    let refusal = value_refusal(bytes, at);
-    if refusal != 0 {
-        return refusal;
+    check_values(given)?;
+    if scores < given.at.rows {
+        return Err(Refusal::Room);
     }
-    if scores < at.rows {
-        return 10;
-    }
-    0
+    Ok(())
 }
 
 // A packed bit past n: from eight positions on they fill their bytes.
-fn some_past(bytes: &[u8], at: Layout) -> bool
-    requires { Laid bytes.now at }
-    ensures { result ≡ some_past (positions bytes.now) (row_count bytes.now) (packed_part bytes.now) }
+fn some_past(given: ResultRecord<'_>) -> bool
+    ensures { result ≡ some_past (positions given.entry.bytes.now) (row_count given.entry.bytes.now) (packed_part given.entry.bytes.now) }
 {
-    if at.m != 2 {
-        return false;
-    }
-    let from = at.packed;
-    some_high(&bytes[from..])
+    given.at.m == 2 && some_high(given.packed_rows())
 }
 
-// Behind those of the shape, the customer reader's refusals 22, 10 and 21, or 0: so many scores and input bytes are lent.
-pub fn customer_refusal(bytes: &[u8], at: Layout, scores: usize, inputs: usize) -> u32
-    requires { Laid bytes.now at }
-    ensures { result ≡ first (customer_rest bytes.now scores inputs) }
+// Behind those of the shape, the customer reader's refusals 22, 10 and 21: so many scores and input bytes are lent.
+pub fn check_customer(given: ResultRecord<'_>, scores: usize, inputs: usize) -> Result<(), Refusal>
+    ensures { refused result ≡ first (customer_rest given.entry.bytes.now scores inputs) }
 {
-    let refusal = operator_refusal(bytes, at, scores);
-    if refusal != 0 {
-        return refusal;
+    check_operator(given, scores)?;
+    if inputs < times(given.at.rows, given.at.n) {
+        return Err(Refusal::Room);
     }
-    if inputs < times(at.rows, at.n) {
-        return 10;
+    if some_past(given) {
+        return Err(Refusal::PackedBits);
     }
-    if some_past(bytes, at) {
-        return 21;
-    }
-    0
+    Ok(())
 }

@@ -4,42 +4,36 @@ ghost use Rattle.result_refusals.specs.Shape.{Headed, Found};
 
 use crate::head::{Head, read_head};
 use code::size;
-use result_fields::{Layout, length_of, scores_at};
-
-#[derive(Drop)]
-pub enum Located {
-    At(Layout),
-    Refused(u32),
-}
+use refusals::Refusal;
+use result_fields::{Layout, ResultRecord, length_of, scores_at};
 
 // A record whose first three bytes are right: refusal 13.
-fn locate_parts(bytes: &[u8], fields: u32, m: u32, rows: u32) -> Located
-    requires { Headed bytes.now fields m rows }
+fn locate_parts(bytes: &[u8], head: Head) -> Result<ResultRecord<'_>, Refusal>
+    requires { Headed bytes.now head.fields head.m head.rows }
     ensures { Found bytes.now (result_length_faults bytes.now) result }
 {
-    let end = length_of(fields, m, rows as usize);
+    let rows = head.rows as usize;
+    let end = length_of(head.fields, head.m, rows);
     if bytes.len() != end {
-        return Located::Refused(13);
+        return Err(Refusal::RecordLength);
     }
-    let n = size(m);
-    let scores = scores_at(fields);
-    Located::At(Layout {
-        fields: fields,
-        m: m,
-        rows: rows as usize,
-        n: n,
-        scores: scores,
-        packed: scores + 4 * (rows as usize),
-    })
+    let n = size(head.m);
+    let scores = scores_at(head.fields);
+    let at = Layout {
+        fields: head.fields,
+        m: head.m,
+        rows,
+        n,
+        scores,
+        packed: scores + 4 * rows,
+    };
+    Ok(ResultRecord { bytes, at })
 }
 
 // Refusals 13, 14, 13, 1, 4 and 13.
-pub fn locate(bytes: &[u8]) -> Located
+pub fn locate(bytes: &[u8]) -> Result<ResultRecord<'_>, Refusal>
     ensures { Found bytes.now (result_shape_faults bytes.now) result }
 {
-    let head = read_head(bytes);
-    match head {
-        Head::Known(fields, m, rows) => locate_parts(bytes, fields, m, rows),
-        Head::Unfit(k) => Located::Refused(k),
-    }
+    let head = read_head(bytes)?;
+    locate_parts(bytes, head)
 }

@@ -4,10 +4,10 @@ ghost use Rattle.text.specs.BitText.{bit_text};
 ghost use Rattle.text.specs.Decimal.{decimal, signed_decimal};
 ghost use Rattle.text.specs.Words.{space};
 ghost use Rattle.place.specs.Put.{Put, Begins};
-ghost use Rattle.row_text.specs.Output.{ceiling_word, refused_text, frame_line, row_line};
+ghost use Rattle.row_text.specs.Output.{refused_text, frame_line, row_line};
 
-use place::{put_byte, put_bytes};
-use text::{put_bits, put_named, put_number, put_signed};
+use place::put_byte;
+use text::{put_bits, put_named, put_number};
 
 // A line of its own: the refusal number.
 pub fn write_refused(k: u32, out: &mut [u8]) -> usize
@@ -18,14 +18,6 @@ pub fn write_refused(k: u32, out: &mut [u8]) -> usize
     put_byte(out, next, b'\n')
 }
 
-fn put_ceiling(out: &mut [u8], at: usize, ceiling: i32) -> usize
-    requires { at + 20 ≤ length out.old }
-    ensures { (Put at (ceiling_word ++ signed_decimal ceiling) out.old result out.new) × (result ≤ at + 20) }
-{
-    let next = put_bytes(out, at, b" ceiling ");
-    put_signed(out, next, ceiling)
-}
-
 // Line one: frame number, row count and ceiling.
 pub(crate) fn put_frame_line(out: &mut [u8], frame: u32, rows: u32, ceiling: i32) -> usize
     requires { 53 ≤ length out.old }
@@ -33,7 +25,7 @@ pub(crate) fn put_frame_line(out: &mut [u8], frame: u32, rows: u32, ceiling: i32
 {
     let a = put_named(out, 0, b"frame ", frame);
     let b = put_named(out, a, b" rows ", rows);
-    let c = put_ceiling(out, b, ceiling);
+    let c = put_named(out, b, b" ceiling ", ceiling);
     put_byte(out, c, b'\n')
 }
 
@@ -43,7 +35,7 @@ fn put_rank_and_score(out: &mut [u8], at: usize, rank: u32, score: i32) -> usize
 {
     let a = put_number(out, at, rank);
     let b = put_byte(out, a, b' ');
-    put_signed(out, b, score)
+    put_number(out, b, score)
 }
 
 // The input bits and the code bits, a space before each.

@@ -22,13 +22,11 @@ fn put_rows(
 {
     let mut next = at;
     let mut from = 0;
-    let mut rank = 0;
-    while rank < rows {
+    for rank in 0..rows {
         let to = from + n;
         let score = scores[rank as usize];
         next = put_row(out, next, rank, score, &inputs[from..to], &words[from..to]);
         from = to;
-        rank += 1;
     }
     next
 }

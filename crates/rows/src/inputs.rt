@@ -2,14 +2,6 @@
 ghost use Rattle.std.specs.Prelude.{◌≡◌, ◌+◌, ◌*◌, ◌≤◌, ◌<◌, length};
 ghost use Rattle.rows.specs.Trace.{Fits, LedBack, InputsWritten};
 
-use slices::fill_bytes;
-
-fn wide(x: u8) -> usize
-    ensures { result ≡ x }
-{
-    x as usize
-}
-
 // Reads the path at rank r after p positions back to position `from`: its bits from there on go to their places of a row, and the rank
 // that it had then is returned. past is l * p.
 pub(crate) fn trace_back(
@@ -24,15 +16,13 @@ pub(crate) fn trace_back(
     requires { (from ≤ p) × (p ≤ length row.old) × (past ≡ l * p) × (past + 32 ≤ length history.now) × (r < 32) }
     ensures { LedBack l from p r history.now row.old result row.new }
 {
-    let mut at = p;
     let mut base = past;
     let mut rank = r;
-    while from < at {
-        at -= 1;
+    for i in (from..p).rev() {
         base -= l;
         let x = history[base + rank];
-        row[at] = x % 2;
-        rank = wide(x / 2 % 32);
+        row[i] = x % 2;
+        rank = usize::from(x / 2 % 32);
     }
     rank
 }
@@ -50,12 +40,9 @@ pub fn write_inputs(
     requires { Fits l p past n count (length inputs.old) (length history.now) }
     ensures { InputsWritten l p n count (length inputs.old) history.now inputs.new }
 {
-    fill_bytes(inputs, 0);
-    let mut r = 0;
-    let mut at = 0;
-    while r < count {
+    inputs.fill(0);
+    for r in 0..count {
+        let at = n * r;
         trace_back(&mut inputs[at..at + n], history, l, 0, p, past, r);
-        r += 1;
-        at += n;
     }
 }

@@ -4,7 +4,6 @@ ghost use Rattle.std.specs.Prelude.{◌≡◌, ◌*◌, ◌≤◌, ◌<◌, leng
 ghost use Rattle.rows.specs.PrefixRows.{RenewFits, RowRenewed, RowsRenewed};
 
 use crate::inputs::trace_back;
-use slices::{copy, times};
 
 // The prefix at rank r after i positions, at the front of a row of n bytes. The history is at the front of g, past is l * i, and from `kept`
 // on, l * n, are the rows of the prefixes of the first `held` ranks after `seen` positions. Where r leads back to a rank that has no row
@@ -27,12 +26,11 @@ fn renew_row(
 {
     let q = trace_back(row, g, l, seen, i, past, r);
     if q < held {
-        let at = kept + times(n, q);
-        copy(&g[at..at + seen], &mut row[..seen]);
+        let at = kept + n * q;
+        row[..seen].copy_from_slice(&g[at..at + seen]);
         return;
     }
-    let before = times(l, seen);
-    trace_back(row, g, l, 0, seen, before, q);
+    trace_back(row, g, l, 0, seen, l * seen, q);
 }
 
 // The prefixes at the first count ranks after i positions.
@@ -51,11 +49,8 @@ pub fn renew_rows(
     requires { RenewFits l n seen held i past kept (length g.now) × (count ≤ l) × (n * count ≤ length rows.old) }
     ensures { RowsRenewed l n seen held i count g.now rows.new }
 {
-    let mut r = 0;
-    let mut at = 0;
-    while r < count {
+    for r in 0..count {
+        let at = n * r;
         renew_row(&mut rows[at..at + n], g, l, n, seen, held, i, past, kept, r);
-        r += 1;
-        at += n;
     }
 }

@@ -7,8 +7,7 @@ ghost use Rattle.laws.specs.Cost.{magnitude};
 ghost use Rattle.laws.specs.ScoreCost.{score_from};
 ghost use Rattle.rows.specs.Scores.{ScoresFit, ScoresWritten};
 
-use ranges::{magnitude_of, taken_at};
-use slices::fill_scores;
+use ranges::{magnitude_of, saturated};
 
 // The sum of the soft values' magnitudes, as they are taken.
 pub fn magnitude(soft: &[i16]) -> u32
@@ -16,11 +15,8 @@ pub fn magnitude(soft: &[i16]) -> u32
     ensures { result ≡ magnitude (taken soft.now) }
 {
     let mut sum: u32 = 0;
-    let mut i = 0;
-    while i < soft.len() {
-        let y = taken_at(soft, i);
-        sum += magnitude_of(y);
-        i += 1;
+    for y in soft {
+        sum += magnitude_of(saturated(*y));
     }
     sum
 }
@@ -30,12 +26,7 @@ pub fn score_of(total: u32, cost: u32) -> i32
     requires { (total ≤ 2096128) × (cost ≤ total) }
     ensures { result ≡ score_from total cost }
 {
-    let twice = 2 * cost;
-    if twice <= total {
-        (total - twice) as i32
-    } else {
-        -((twice - total) as i32)
-    }
+    total.cast_signed() - (2 * cost).cast_signed()
 }
 
 // The scores of count rows, by rank, and 0 behind them.
@@ -43,10 +34,8 @@ pub fn write_scores(scores: &mut [i32], costs: &[u32; 32], total: u32, count: us
     requires { ScoresFit total count (length scores.old) costs.now }
     ensures { ScoresWritten total count (length scores.old) costs.now scores.new }
 {
-    fill_scores(scores, 0);
-    let mut r = 0;
-    while r < count {
+    scores.fill(0);
+    for r in 0..count {
         scores[r] = score_of(total, costs[r]);
-        r += 1;
     }
 }

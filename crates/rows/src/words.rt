@@ -4,7 +4,6 @@ ghost use Rattle.spec.specs.Transform.{transform_by};
 ghost use Rattle.transform.specs.Word.{Word};
 ghost use Rattle.rows.specs.Words.{WordsFit, WordsWritten};
 
-use slices::{copy, fill_bytes};
 use transform::transform_word;
 
 // The word of one input row.
@@ -12,7 +11,7 @@ pub fn put_word(row: &mut [u8], input: &[u8], m: u32, arikan: bool)
     requires { (length row.old ≡ length input.now) × Word m input.now }
     ensures { row.new ≡ transform_by arikan m input.now }
 {
-    copy(input, row);
+    row.copy_from_slice(input);
     transform_word(row, m, arikan);
 }
 
@@ -29,12 +28,9 @@ pub fn write_words(
     requires { WordsFit m n l count (length words.old) inputs.now }
     ensures { WordsWritten m arikan n count (length words.old) inputs.now words.new }
 {
-    fill_bytes(words, 0);
-    let mut r = 0;
-    let mut at = 0;
-    while r < count {
+    words.fill(0);
+    for r in 0..count {
+        let at = n * r;
         put_word(&mut words[at..at + n], &inputs[at..at + n], m, arikan);
-        r += 1;
-        at += n;
     }
 }

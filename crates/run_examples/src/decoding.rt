@@ -2,44 +2,31 @@
 ghost use Rattle.std.specs.Prelude.{◌≡◌, ◌≤◌, length};
 
 use crate::lines::least;
-use crate::say::{say, say_bytes, say_number, say_signed};
+use crate::say::{say, say_bytes, say_number, say_refusal, say_signed};
+use code::Code;
 use decoder::{Decoded, decode};
 
 fn say_score(scores: &[i32]) {
     say(b", score ");
-    if scores.len() > 0 {
-        say_signed(scores[0]);
+    if let Some(score) = scores.first() {
+        say_signed(*score);
     }
 }
 
-// The number of rows and the ceiling.
-fn say_count(rows: u32, ceiling: i32) {
-    say_number(b": rows ", rows);
+// The number of rows and the ceiling, all that the rows lent hold, and the first score.
+fn say_decoded(decoded: Decoded, inputs: &[u8], words: &[u8], scores: &[i32]) {
+    say_number(b": rows ", decoded.rows);
     say(b", ceiling ");
-    say_signed(ceiling);
-}
-
-// The same, all that the rows lent hold, and the first score.
-fn say_rows(rows: u32, ceiling: i32, inputs: &[u8], words: &[u8], scores: &[i32]) {
-    say_count(rows, ceiling);
+    say_signed(decoded.ceiling);
     say_bytes(b", inputs ", inputs);
     say_bytes(b", words ", words);
     say_score(scores);
 }
 
-fn say_decoded(answer: Decoded, inputs: &[u8], words: &[u8], scores: &[i32]) {
-    match answer {
-        Decoded::Refused(k) => say_number(b": refused ", k),
-        Decoded::Rows(rows, ceiling) => say_rows(rows, ceiling, inputs, words, scores),
-    }
-}
-
-// What a call is given in numbers: m, the choice of the transform, l and p, and how much is lent of the number tables, the byte tables, the input rows, the code rows
+// What a call is given in numbers behind m and the choice of the transform: l and p, and how much is lent of the number tables, the byte tables, the input rows, the code rows
 // and the scores.
 #[derive(Drop)]
 pub(crate) struct Asked {
-    pub m: u32,
-    pub arikan: bool,
     pub l: u32,
     pub p: u32,
     pub numbers: usize,
@@ -54,8 +41,6 @@ pub(crate) fn read_asked(fields: &[u32]) -> Asked
     ensures { (result.numbers ≤ 512) × (result.bytes ≤ 320) × (result.inputs ≤ 16) × (result.words ≤ 16) × (result.scores ≤ 1) }
 {
     Asked {
-        m: fields[0],
-        arikan: fields[1] != 0,
         l: fields[2],
         p: fields[3],
         numbers: least(fields[4], 512),
@@ -66,7 +51,7 @@ pub(crate) fn read_asked(fields: &[u32]) -> Asked
     }
 }
 
-pub(crate) fn decode_asked(map: &[u8], pairs: &[u8], soft: &[i16], x: Asked)
+pub(crate) fn decode_asked(code: Code, soft: &[i16], x: Asked)
     requires { (x.numbers ≤ 512) × (x.bytes ≤ 320) × (x.inputs ≤ 16) × (x.words ≤ 16) × (x.scores ≤ 1) }
 {
     let a = x.numbers;
@@ -84,8 +69,8 @@ pub(crate) fn decode_asked(map: &[u8], pairs: &[u8], soft: &[i16], x: Asked)
     let inputs: &mut [u8] = &mut input_rows[..c];
     let words: &mut [u8] = &mut code_rows[..d];
     let scores: &mut [i32] = &mut row_scores[..e];
-    let answer = decode(
-        x.m, x.arikan, map, pairs, x.l, x.p, soft, numbers, bytes, inputs, words, scores,
-    );
-    say_decoded(answer, inputs, words, scores);
+    match decode(code, x.l, x.p, soft, numbers, bytes, inputs, words, scores) {
+        Ok(decoded) => say_decoded(decoded, inputs, words, scores),
+        Err(refusal) => say_refusal(refusal),
+    }
 }

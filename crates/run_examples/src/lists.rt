@@ -1,76 +1,59 @@
 // The numbers of a line, read into slices.
 ghost use Rattle.std.specs.Prelude.{◌≤◌, length};
 
-use crate::lines::{next, word_end};
+use crate::lines::{Read, next, word_end};
 
-// So many labels with a number each. Returns the place behind them.
-pub(crate) fn read_fields(line: &[u8], from: usize, count: usize, fields: &mut [u32]) -> usize
-    requires { count ≤ length fields.old }
-{
+// A label with a number behind each, as many as `fields` has places; 0 where a label has none. Returns the place behind them.
+pub(crate) fn read_fields(line: &[u8], from: usize, fields: &mut [u32]) -> usize {
     let mut at = from;
-    let mut i = 0;
-    while i < count {
-        let x = next(line, word_end(line, at));
-        fields[i] = x.value;
+    for field in fields.iter_mut() {
+        let label = word_end(line, at);
+        let x = next(line, label).unwrap_or(Read {
+            value: 0,
+            at: label,
+        });
+        *field = x.value;
         at = x.at;
-        i += 1;
     }
     at
 }
 
 // How many numbers a list has, and the place behind it.
-#[derive(Drop)]
+#[derive(Clone, Copy)]
 pub(crate) struct List {
     pub len: usize,
     pub at: usize,
 }
 
-fn byte_of(x: u32) -> u8 {
+pub(crate) fn byte_of(x: u32) -> u8 {
     (x % 256) as u8
 }
 
-// A label and the bytes behind it, as many as there is room for.
-pub(crate) fn read_bytes(line: &[u8], from: usize, bytes: &mut [u8]) -> List
-    ensures { result.len ≤ length bytes.old }
+// The number of 16 bits that stands for a soft value.
+pub(crate) fn soft_of(x: u32) -> i16 {
+    ((x % 65536) as u16).cast_signed()
+}
+
+// A label and the items behind it, each made of its number, as many as there is room for.
+pub(crate) fn read_list<T: Copy, F: Fn(u32) -> T>(
+    line: &[u8],
+    from: usize,
+    items: &mut [T],
+    of: F,
+) -> List
+    requires { F.IsAlwaysCallable of }
+    ensures { result.len ≤ length items.old }
 {
     let mut at = word_end(line, from);
-    let mut i = 0;
-    while i < bytes.len() {
-        let x = next(line, at);
-        if x.at == at {
+    for i in 0..items.len() {
+        let Some(x) = next(line, at) else {
             return List { len: i, at };
-        }
-        bytes[i] = byte_of(x.value);
+        };
+        items[i] = of(x.value);
         at = x.at;
-        i += 1;
     }
-    List { len: i, at }
-}
-
-// The high half of the numbers of 16 bits stands for those below 0.
-fn signed(number: u32) -> i16 {
-    let x = number % 65536;
-    if x < 32768 {
-        x as i16
-    } else {
-        -1 - ((65535 - x) as i16)
+    List {
+        len: items.len(),
+        at,
     }
-}
-
-// A label and the soft values behind it, as many as there is room for. Returns how many.
-pub(crate) fn read_soft(line: &[u8], from: usize, soft: &mut [i16]) -> usize
-    ensures { result ≤ length soft.old }
-{
-    let mut at = word_end(line, from);
-    let mut i = 0;
-    while i < soft.len() {
-        let x = next(line, at);
-        if x.at == at {
-            return i;
-        }
-        soft[i] = signed(x.value);
-        at = x.at;
-        i += 1;
-    }
-    i
 }

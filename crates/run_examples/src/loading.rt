@@ -2,20 +2,14 @@
 ghost use Rattle.std.specs.Prelude.{◌≡◌, ◌≤◌, length};
 
 use crate::lines::least;
-use crate::say::{say_number, say_spaced};
+use crate::say::{say_number, say_refusal, say_spaced};
+use code::Code;
 use test_load::{Load, test_load};
 
 // The length of the record and the next state.
-fn say_made(len: u32, state: u32) {
-    say_number(b": length ", len);
-    say_number(b", state ", state);
-}
-
-fn say_load(answer: Load) {
-    match answer {
-        Load::Made(len, state) => say_made(len, state),
-        Load::Refused(k) => say_number(b": refused ", k),
-    }
+fn say_load(load: Load) {
+    say_number(b": length ", load.length);
+    say_number(b", state ", load.state);
 }
 
 // What a call is given in numbers, the first six: the state, m, the choice of the transform and the frame number, and how long the output
@@ -47,14 +41,22 @@ pub(crate) fn read_wanted(fields: &[u32]) -> Wanted
 pub(crate) fn load_wanted(map: &[u8], pairs: &[u8], x: Wanted)
     requires { (x.len ≤ 48) × (x.room ≤ 16) }
 {
+    let code = Code {
+        m: x.m,
+        arikan: x.arikan,
+        map,
+        pairs,
+    };
     let len = x.len;
     let room = x.room;
     let mut space = [5u8; 48];
     let mut bits = [5u8; 16];
     let output: &mut [u8] = &mut space[..len];
     let payload: &mut [u8] = &mut bits[..room];
-    let answer = test_load(x.state, x.m, x.arikan, map, pairs, x.frame, output, payload);
-    say_load(answer);
+    match test_load(x.state, code, x.frame, output, payload) {
+        Ok(load) => say_load(load),
+        Err(refusal) => say_refusal(refusal),
+    }
     say_spaced(b", output", output);
     say_spaced(b", payload", payload);
 }

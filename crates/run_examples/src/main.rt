@@ -4,6 +4,7 @@
 #![tactic(auto)]
 
 mod blocks;
+mod calls;
 mod coding;
 mod decoding;
 mod lines;
@@ -16,44 +17,25 @@ mod say;
 mod writing;
 
 use blocks::block_line;
+use calls::{Call, call_of};
 use coding::code_line;
-use lines::{byte_at, find, word_end};
-use results::result_line;
+use lines::{find, word_end};
+use results::{read_line, write_line};
 use sampling::sample_line;
 use say::say;
 
-// The second letter tells the names encode, extract, quantise, decode, list, write and load apart.
-fn code_call(call: &[u8], at: usize) {
-    let letter = byte_at(call, 3);
-    if letter == b'n' {
-        code_line(false, call, at);
-    } else if letter == b'x' {
-        code_line(true, call, at);
-    } else if letter == b'u' {
-        sample_line(call, at);
-    } else if letter != 0 {
-        block_line(letter, call, at);
-    }
-}
-
-// The calls on result records are result, customer and operator: no other name begins with such a letter.
-fn is_result(letter: u8) -> bool {
-    if letter == b'r' {
-        return true;
-    }
-    if letter == b'c' {
-        return true;
-    }
-    letter == b'o'
-}
-
 fn run_call(call: &[u8]) {
-    let letter = byte_at(call, 2);
     let at = word_end(call, 1);
-    if is_result(letter) {
-        result_line(letter, call, at);
-    } else {
-        code_call(call, at);
+    let Some(name) = call_of(call) else {
+        return;
+    };
+    match name {
+        Call::Encode | Call::Extract => code_line(name, call, at),
+        Call::Quantise => sample_line(call, at),
+        Call::WriteResult => write_line(call, at),
+        Call::ReadAsCustomer => read_line(false, call, at),
+        Call::ReadAsOperator => read_line(true, call, at),
+        _ => block_line(name, call, at),
     }
 }
 
@@ -64,6 +46,7 @@ fn run_line(line: &[u8]) {
     say(b"\n");
 }
 
+// A `while`, since how far a turn goes is in the text.
 fn run(text: &[u8]) {
     let mut at = 0;
     while at < text.len() {

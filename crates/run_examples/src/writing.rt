@@ -2,22 +2,21 @@
 ghost use Rattle.std.specs.Prelude.{◌≡◌, ◌≤◌, length};
 
 use crate::lines::least;
-use crate::say::{say_number, say_spaced};
+use crate::say::{say_number, say_refusal, say_spaced};
+use code::Code;
 use job_writer::write_job;
-use record_writer::Length;
+use refusals::Refusal;
 
-pub(crate) fn say_length(answer: Length) {
+pub(crate) fn say_length(answer: Result<u32, Refusal>) {
     match answer {
-        Length::Bytes(k) => say_number(b": length ", k),
-        Length::Refused(k) => say_number(b": refused ", k),
+        Ok(length) => say_number(b": length ", length),
+        Err(refusal) => say_refusal(refusal),
     }
 }
 
-// What a call is given in numbers, the first six: m, the choice of the transform, l, p and the frame number, and how long the output is.
+// What a call is given in numbers, the third to the sixth: l, p and the frame number, and how long the output is.
 #[derive(Drop)]
 pub(crate) struct Told {
-    pub m: u32,
-    pub arikan: bool,
     pub l: u32,
     pub p: u32,
     pub frame: u32,
@@ -29,8 +28,6 @@ pub(crate) fn read_told(fields: &[u32]) -> Told
     ensures { result.len ≤ 48 }
 {
     Told {
-        m: fields[0],
-        arikan: fields[1] != 0,
         l: fields[2],
         p: fields[3],
         frame: fields[4],
@@ -38,13 +35,13 @@ pub(crate) fn read_told(fields: &[u32]) -> Told
     }
 }
 
-pub(crate) fn write_told(map: &[u8], pairs: &[u8], soft: &[i16], x: Told)
+pub(crate) fn write_told(code: Code, soft: &[i16], x: Told)
     requires { x.len ≤ 48 }
 {
     let len = x.len;
     let mut space = [5u8; 48];
     let output: &mut [u8] = &mut space[..len];
-    let answer = write_job(x.m, x.arikan, map, pairs, x.l, x.p, x.frame, soft, output);
+    let answer = write_job(code, x.l, x.p, x.frame, soft, output);
     say_length(answer);
     say_spaced(b", output", output);
 }

@@ -5,6 +5,7 @@ ghost use Rattle.std.specs.Prelude.{◌≡◌, ◌≤◌, length, take};
 ghost use Rattle.log_page.specs.Reading.{extent};
 
 use log_page::{Totals, needed, write_step};
+use std::ops::ControlFlow;
 
 // Reads the next record to the front of `input`, and no byte further than is needed. Returns how many bytes there are: fewer than needed
 // where the input stops, and 0 at its end.
@@ -14,6 +15,7 @@ fn take_record(records: u32, input: &mut [u8]) -> usize
 {
     let mut n = 0;
     let mut to = 1;
+    // A while loop: how far a round reads depends on the bytes that are there.
     while n < to {
         let got = io::read_full(0, &mut input[n..to]);
         n += got;
@@ -32,6 +34,7 @@ fn main() {
         records: 0,
         rows: 0,
     };
+    // A `loop`, since the page ends where its input does.
     loop {
         let n = take_record(totals.records, &mut input);
         let step = write_step(totals, &input[..n], &mut out);
@@ -39,9 +42,9 @@ fn main() {
         if !io::write_all(1, &out[..count]) {
             break;
         }
-        if step.ended {
-            break;
+        match step.flow {
+            ControlFlow::Continue(next) => totals = next,
+            ControlFlow::Break(_) => break,
         }
-        totals = step.totals;
     }
 }

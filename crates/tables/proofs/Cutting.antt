@@ -1,5 +1,5 @@
 -- The cut of slot numbers, and what it means for the prefixes that the ranks stand for.
-use mathlib.Core.Path.{◌≡◌, refl, sym, ap, ◌∙◌}
+use mathlib.Core.Path.{◌≡◌, refl, ap, ◌∙◌}
 use mathlib.Core.Logic.{⊎_elim}
 use mathlib.Core.Bool.{Bool}
 use mathlib.Core.List.{List}
@@ -13,19 +13,6 @@ use Rattle.tables.specs.Right.{AllRight}
 use Rattle.tables.specs.Walk.{slot_w, slot_o, Named}
 use Rattle.tables.specs.Cut.{parent, CutRows, CutSlots}
 use Rattle.tables.proofs.Places.{lt_or_le}
-
--- ---- a row
-pub row_cut : (parents slots slots' row row' : List ℕ) (at count : ℕ)
-    → Wrote (λ r. get_or slots (at + r) 0) 0 32 row row'
-    → Wrote (λ r. get_or row' (parent parents r) 0) at count slots slots'
-    → Wrote (λ r. get_or slots (at + parent parents r) 0) at count slots slots'
-row_cut parents slots slots' row row' at count a b = record {
-  same = b.same;
-  inside = λ r h. b.inside r h ∙ ap (λ (k : ℕ). get_or row' k 0) (sym (zero-add (parent parents r)))
-      ∙ a.inside (parent parents r) (omega arith);
-  below = b.below;
-  above = b.above;
-}
 
 -- ---- the rows of all layers
 pub cut_none : (from count : ℕ) (parents slots : List ℕ) → CutRows from 0 count parents slots slots
@@ -83,20 +70,6 @@ cut_both deep count parents s s' s'' hd few a b = record {
     odd_stay d r q hr = ⊎_elim (λ (h : d < deep + 1). b.stays d r h q hr)
         (λ (h : deep + 1 ≤ d). b.above (512 + 32 * d + r) (omega arith)) (lt_or_le d (deep + 1))
         ∙ a.above (512 + 32 * d + r) (omega arith)
-
--- each path its own parent: nothing is to be done
-pub cut_unmoved : (deep count : ℕ) (parents s : List ℕ) → count ≤ 32 → ((r : ℕ) → r < count → get_or parents r 0 ≡ r)
-    → CutSlots deep count parents s s
-cut_unmoved deep count parents s few p = record {
-  same = refl;
-  windows = λ d r _ hr. ap (λ (k : ℕ). get_or s (32 * d + k) 0) (own r hr);
-  odds = λ d r _ hr. ap (λ (k : ℕ). get_or s (512 + 32 * d + k) 0) (own r hr);
-  windows_stay = λ _ _ _ _ _. refl;
-  odds_stay = λ _ _ _ _. refl;
-}
-  where
-    own : (r : ℕ) → r < count → r ≡ parent parents r
-    own r hr = omega (arith, p r hr)
 
 -- ---- what it means: rank r now stands for the prefix of its parent
 module _ (deep oldCount count : ℕ) (parents slots slots' : List ℕ) (old : oldCount ≤ 32)

@@ -1,12 +1,14 @@
 -- The three ends of the walk down, as the code meets them, and the whole of `advance`.
 use mathlib.Core.Path.{◌≡◌, refl, ◌∙◌, sym, ap, subst}
 use mathlib.Core.Logic.{⊎_elim}
-use mathlib.Core.Bool.{Bool, false}
+use mathlib.Core.Bool.{Bool, false, true≢false}
 use mathlib.Core.List.{List}
 use Prim.Native.Nat.{ℕ, zero, suc, ◌+◌, ◌*◌, ◌-◌, ◌/◌, ◌%◌, ◌<◌, ◌≤◌, ◌^◌}
 use native.Mathlib.Nat.{eq-or-lt_of_le}
 use native.Mathlib.Omega.{arith}
 use lib.ListN.{length}
+use Rattle.std.specs.Prelude.{nat_eq}
+use Rattle.std.proofs.lemmas.Bool.{eqb-true, eq-eqb}
 use lib.Pow.{pow_mono, pow_pos}
 use Rattle.laws.specs.Nodes.{phase, phase_le, bits_snoc, down, down_is}
 use Rattle.windows.specs.Op.{Wrote}
@@ -59,9 +61,9 @@ reached_more n deep e w x size lt np nz a =
     positive zero nz = absurd (nz refl)
     positive (suc x) nz = omega arith
 
-pub narrow : (n deep e w x size : ℕ) → deep ≤ 8 → Reached n deep e w x size → w ≤ 256
-narrow n deep e w x size h a = let q : 2 ^ e ≤ 2 ^ 8
-    = pow_mono {i = e} {j = 8} (omega (arith, a.far)) in omega (arith, a.width)
+-- whether the bottom's bit is its third, as the test has it
+pub two_of : (x : ℕ) → Two x (nat_eq x 2)
+two_of x = record { yes = eqb-true x 2; no = λ e f. true≢false (sym (eq-eqb x 2 f) ∙ e) }
 
 -- ---- what depends on the layer rule
 module _ (arikan : Bool) where

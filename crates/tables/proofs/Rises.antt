@@ -140,11 +140,32 @@ module _ (arikan : Bool) where
         (eq-or-lt_of_le {n = d} {m = e} le)
 
   -- ---- the loop up: the layers from d on are right, if they were from e on
+  -- the phase of the layer above d lies inside its nodes' words
+  rise_room : (deep l h count n e w x size : ℕ) (t b slots : List ℕ) → Climbs deep l h count n e w x size t b slots
+      → (d p s : ℕ) → d ≤ e → p ≡ phase d n → s ≡ 2 ^ suc (suc (deep - d)) → 0 < d → 2 * p + 3 < 2 * s
+  rise_room deep l h count n e w x size t b slots a d p s hd ep es pos =
+      let c : ℕ = d - 1 in
+      let k : ℕ = deep - d in
+      let ed : d ≡ suc c = omega arith in
+      let z : c + suc (suc (suc k)) ≡ suc (suc deep) = omega (arith, a.far) in
+      let r : suc n ≤ 2 ^ (c + suc (suc (suc k))) = rw z a.room in
+      omega (
+        arith,
+        phase_le c (suc (suc (suc k))) (suc n) r,
+        phase_new n e a.turns c p (omega arith) (ep ∙ ap (λ (z : ℕ). phase z n) ed),
+      )
+
+  word_short : (deep d s : ℕ) → deep ≤ 8 → s ≡ 2 ^ suc (suc (deep - d)) → s ≤ 1024
+  word_short deep d s h e
+      = rw e (pow_mono {i = suc (suc (deep - d))} {j = 10} (omega arith))
+
   pub record Climbing (deep l h count n e : ℕ) (t₀ b slots₀ : List ℕ) (d v p s : ℕ) (t slots : List ℕ) : Type 0 where
     pub far : d ≤ e
     pub width : v ≡ 2 ^ d
     pub at : p ≡ phase d n
     pub sized : s ≡ 2 ^ suc (suc (deep - d))
+    pub room : 0 < d → 2 * p + 3 < 2 * s
+    pub short : s ≤ 1024
     pub words : length t ≡ length t₀
     pub numbers : length slots ≡ length slots₀
     pub names : Named deep l count slots
@@ -159,6 +180,8 @@ module _ (arikan : Bool) where
     width = a.width;
     at = a.at;
     sized = a.sized;
+    room = rise_room deep l h count n e w x size t b slots a e x size (omega arith) a.at a.sized;
+    short = word_short deep e size a.deepest a.sized;
     words = refl;
     numbers = refl;
     names = names;
@@ -199,15 +222,6 @@ module _ (arikan : Bool) where
     low : slot_start (v / 2) l l ≤ h
     low = rw half (omega (arith, a.below, slot_deep c (suc deep) l 0 (omega (arith, a.far))))
 
-    -- the phase lies inside the node's word, which is not long
-    pub climb_small : (2 * p + 3 < 2 * s) × (2 * s ≤ 4096)
-    climb_small =
-        let z : c + suc (suc (suc k)) ≡ suc (suc deep) = omega (arith, ek) in
-        let r : suc n ≤ 2 ^ (c + suc (suc (suc k))) = rw z a.room in
-        let q : 2 ^ suc (suc (suc k)) ≤ 2 ^ 11
-        = pow_mono {i = suc (suc (suc k))} {j = 11} (omega (arith, a.deepest)) in
-        (omega (arith, phase_le c (suc (suc (suc k))) (suc n) r, pn, twice), omega (arith, twice))
-
     pub climb_fits : FitWindows (v / 2) l h t b
     climb_fits =
         let q : 2 ^ c ≤ 2 ^ 8 = pow_mono {i = c} {j = 8} (omega (arith, a.deepest, a.far)) in
@@ -227,7 +241,7 @@ module _ (arikan : Bool) where
           rw z (g.names.windows d (omega (arith, g.far, a.far))),
           rw z (g.names.odds d (omega (arith, g.far, a.far))),
           a.few,
-          omega (arith, climb_small),
+          omega (arith, g.room hd),
           omega (arith, a.deepest, a.far, hc),
           (g.names.windows c (omega (arith, a.far, hc))).there,
         )
@@ -241,8 +255,10 @@ module _ (arikan : Bool) where
     climb_more ev t' slots' ee rows own = record {
       far = omega (arith, g.far);
       width = half;
-      at = sym (phase_up n e a.turns c p hc ep);
-      sized = let z : deep - c ≡ suc k = omega (arith, ek) in rw z twice;
+      at = up;
+      sized = above;
+      room = rise_room deep l h count n e w₀ x₀ size₀ t₀ b slots₀ a c (2 * p + 2) (2 * s) (omega arith) up above;
+      short = word_short deep c (2 * s) a.deepest above;
       words = rows.same ∙ g.words;
       numbers = own.same ∙ g.numbers;
       names = named_own deep l count c slots slots' a.few a.long a.deepest (omega (arith, a.far, hc)) own
@@ -253,6 +269,12 @@ module _ (arikan : Bool) where
           (v / 2) l h count t t' a.few low rows j q ∙ g.kept j q;
     }
       where
+        up : 2 * p + 2 ≡ phase c n
+        up = sym (phase_up n e a.turns c p hc ep)
+
+        above : 2 * s ≡ 2 ^ suc (suc (deep - c))
+        above = let z : deep - c ≡ suc k = omega (arith, ek) in rw z twice
+
         m : ℕ
         m = 2 * s - (2 * p + 3)
 
@@ -275,7 +297,7 @@ module _ (arikan : Bool) where
               bits = q.bits;
               long = q.long;
               after = kind_new n e a.turns c p hc ep;
-              inside = omega (arith, climb_small, pn, twice);
+              inside = omega (arith, g.room hd, pn, twice);
               left = omega (arith, pn, twice);
               reads = ee ∙ ap (λ (z : ℕ). is_even (kind z)) (z ∙ sym (phase_kid n e a.turns c p hc ep));
               small = q.small;

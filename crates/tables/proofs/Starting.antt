@@ -7,6 +7,7 @@ use Prim.Native.Nat.{ℕ, suc, ◌+◌, ◌*◌, ◌-◌, ◌/◌, ◌%◌, ◌<
 use native.Mathlib.Nat.{eq-or-lt_of_le}
 use native.Mathlib.Omega.{arith}
 use lib.ListN.{length, get_or}
+use Rattle.std.specs.List.{CopiedTo, SameBelow, SameFrom}
 use lib.IntN.{ℤ}
 use lib.Pow.{pow_mono}
 use Rattle.spec.specs.Bits.{nil}
@@ -19,27 +20,31 @@ use Rattle.laws.specs.Soft.{four_at, node_soft_bottom}
 use Rattle.laws.specs.Taken.{length_taken, magnitude_range}
 use Rattle.laws.specs.Cells.{Cell, blank_good, read3, Same3}
 use Rattle.laws.specs.Bounds.{win_le, magnitude_halves, magnitude_node_soft}
-use Rattle.windows.specs.Op.{tab_at, op4w, Wrote}
+use Rattle.windows.specs.Op.{tab_at, op4w}
 use Rattle.windows.specs.Start.{first32}
 use Rattle.tables.specs.Tab.{slot_start, WroteRows}
 use Rattle.tables.specs.Right.{AllRight}
 use Rattle.tables.specs.Start.{first_f, StartSize, Costs, First, Started, Untouched}
 use Rattle.tables.proofs.Meaning.{read_right}
 use Rattle.tables.proofs.Operator.{first32_same, op_full, op_same}
-use Rattle.tables.proofs.Places.{pow_two, slot_apart, slot_deep}
+use Rattle.tables.proofs.Places.{pow_two, slot_apart, slot_deep, slot_ends}
 
 -- rows that were written at a place and then copied to another
-pub rows_copied : (F : ℕ → ℕ → ℕ) (a o q : ℕ) (t t₁ t₂ : List ℕ) → WroteRows F a 16 q t t₁ → Wrote (λ x. get_or t₁ (a + x) 0) o (16 * q) t₁ t₂
+pub rows_copied : (F : ℕ → ℕ → ℕ) (a o q n : ℕ) (t t₁ t₂ : List ℕ) → n ≡ 16 * q → WroteRows F a 16 q t t₁
+    → length t₂ ≡ length t₁ → CopiedTo t₁ t₂ a o n → SameBelow t₁ t₂ o → SameFrom t₁ t₂ (o + n)
     → WroteRows F o 16 q t₁ t₂
-rows_copied F a o q t t₁ t₂ rows copy = record {
-  same = copy.same;
+rows_copied F a o q n t t₁ t₂ en rows same copied below above = record {
+  same = same;
   inside = λ r m hr hm.
-      let e : o + 16 * r + m ≡ o + (16 * r + m) = omega arith in
-      let f : a + (16 * r + m) ≡ a + 16 * r + m = omega arith in
-      ap (λ (z : ℕ). get_or t₂ z 0) e ∙ copy.inside (16 * r + m) (omega arith) ∙ ap (λ (z : ℕ). get_or t₁ z 0) f ∙ rows.inside r m hr hm;
-  below = copy.below;
-  above = copy.above;
+      let e : a + (o + 16 * r + m - o) ≡ a + 16 * r + m = omega arith in
+      copied (o + 16 * r + m) 0 (omega arith) (omega arith) ∙ ap (λ (z : ℕ). get_or t₁ z 0) e ∙ rows.inside r m hr hm;
+  below = λ j h. below j 0 h;
+  above = λ j h. above j 0 (omega arith);
 }
+
+-- the number of nodes of layer d, as a shift has it
+pub width_of : (d : ℕ) → d ≤ 8 → 1 * 2 ^ d % 2 ^ 64 ≡ 2 ^ d
+width_of d h = let e : 2 ^ d ≤ 2 ^ 8 = pow_mono {i = d} {j = 8} h in omega arith
 
 -- ---- what depends on the layer rule
 module _ (arikan : Bool) where
@@ -102,9 +107,8 @@ module _ (arikan : Bool) where
   abbrev FirstFrom : ℕ → ℕ → ℕ → List ℤ → List ℕ → Type 0
   FirstFrom deep d l y t = (k e : ℕ) → k + e ≡ deep → d ≤ e → First arikan k e l y t
 
-  pub record Starting (deep l h d w : ℕ) (y : List ℤ) (t₀ t : List ℕ) : Type 0 where
+  pub record Starting (deep l h d : ℕ) (y : List ℤ) (t₀ t : List ℕ) : Type 0 where
     pub far : d ≤ deep
-    pub width : w ≡ 2 ^ d
     pub base : Costs arikan deep h y t
     pub windows : FirstFrom deep d l y t
     pub rest : Untouched deep l h t₀ t
@@ -134,27 +138,18 @@ module _ (arikan : Bool) where
           omega (arith, size.bottom),
         )
 
-    pub start_fits : (d w : ℕ) (t t₁ : List ℕ) → length t ≡ length t₀ → 0 < d → Starting deep l h d w y t₁ t
-        → (w / 2 ≤ 1024) × (1 ≤ l) × (l ≤ 32) × (16 * slot_start (2 * (w / 2)) l l ≤ length t)
-    start_fits d w t t₁ el hd a =
-        let c : ℕ = d - 1 in
-        let z : w ≡ 2 * 2 ^ c = a.width ∙ ap (λ (k : ℕ). 2 ^ k) (omega arith) ∙ pow_two c in
-        let e : 2 * (w / 2) ≡ 2 ^ d = omega (arith, a.width) in
-        let q : 2 ^ d ≤ 2 ^ 8 = pow_mono {i = d} {j = 8} (omega (arith, a.far, size.deepest)) in (
-          omega (arith, a.width),
-          size.paths,
-          size.long,
-          rw e
-              (omega (arith, slot_deep d (suc deep) l 0 (omega (arith, a.far)), size.low, size.costs)),
-        )
+    pub start_fits : (c : ℕ) (t : List ℕ) → length t ≡ length t₀ → c < deep
+        → (2 ^ c ≤ 1024) × (1 ≤ l) × (l ≤ 32) × (16 * slot_start (2 * 2 ^ c) l l ≤ length t)
+    start_fits c t el hc =
+        let e : 2 ^ c ≤ 2 ^ 8 = pow_mono {i = c} {j = 8} (omega (arith, size.deepest)) in
+        (omega arith, size.paths, size.long, omega (arith, slot_ends c deep l hc, size.low, size.costs))
 
     -- the bottom
     pub start_bottom : (t₁ t₂ : List ℕ) → WroteRows (λ i. F arikan (four_at y q i)) (16 * h) 16 q t₀ t₁
         → WroteRows (λ i. F arikan (four_at y q i)) (16 * slot_start q l 0) 16 q t₁ t₂
-        → Starting deep l h deep q y t₀ t₂
+        → Starting deep l h deep y t₀ t₂
     start_bottom t₁ t₂ a b = record {
       far = omega arith;
-      width = size.bottom;
       base = λ i x hi hx.
           let e : 16 * (h + i) + x ≡ 16 * h + 16 * i + x = omega arith in
           b.above (16 * (h + i) + x) (omega (arith, low, size.bottom)) ∙ ap (λ (z : ℕ). get_or t₁ z 0) e
@@ -194,12 +189,11 @@ module _ (arikan : Bool) where
             ∙ sym (base_0 arikan (node_soft deep y i) (x % 2) (x / 2 % 2) (x / 4 % 2) (x / 8 % 2))
 
     -- one layer more
-    pub start_more : (d w : ℕ) (t₁ t t' : List ℕ) → 0 < d → Starting deep l h d w y t₁ t
-        → WroteRows (first_f arikan (slot_start (2 * (w / 2)) l 0) (w / 2) t) (16 * slot_start (w / 2) l 0) 16 (w / 2) t t'
-        → Starting deep l h (d - 1) (w / 2) y t₁ t'
-    start_more d w t₁ t t' hd a rows = record {
+    pub start_more : (d c : ℕ) (t t' : List ℕ) → d ≡ suc c → Starting deep l h d y t₀ t
+        → WroteRows (first_f arikan (slot_start (2 * 2 ^ c) l 0) (2 ^ c) t) (16 * slot_start (2 ^ c) l 0) 16 (2 ^ c) t t'
+        → Starting deep l h c y t₀ t'
+    start_more d c t t' ed a b = record {
       far = omega (arith, a.far);
-      width = half;
       base = λ i x hi hx. b.above (16 * (h + i) + x) (omega (arith, ends_low c (omega (arith, a.far))))
           ∙ a.base i x hi hx;
       windows = λ k e ek he. ⊎_elim
@@ -214,41 +208,16 @@ module _ (arikan : Bool) where
       };
     }
       where
-        c : ℕ
-        c = d - 1
-
-        ed : d ≡ suc c
-        ed = omega arith
-
-        half : w / 2 ≡ 2 ^ c
-        half = let z : w ≡ 2 * 2 ^ c = a.width ∙ ap (λ (k : ℕ). 2 ^ k) ed ∙ pow_two c in omega arith
-
-        b : WroteRows (first_f arikan (slot_start (2 * 2 ^ c) l 0) (2 ^ c) t) (16 * slot_start (2 ^ c) l 0) 16 (2 ^ c) t t'
-        b = rw half at rows
-
         this : (k : ℕ) → k + c ≡ deep → First arikan k c l y t'
         this k ek =
             let z : k ≡ suc (k - 1) = omega (arith, a.far) in
             rw z (layer_first (k - 1) c l y t t' small
             (λ i x hi hx. a.windows (k - 1) (suc c) (omega (arith, a.far)) (omega arith) i x hi hx) b)
 
-    -- from the loop's first turn to its end
-    pub start_again : (w : ℕ) (t : List ℕ) → Starting deep l h deep w y t₀ t → Starting deep l h deep w y t t
-    start_again w t a =
-        record {
-          far = a.far;
-          width = a.width;
-          base = a.base;
-          windows = a.windows;
-          rest
-              = record { same = refl; rest = λ j _. refl };
-        }
-
-    pub start_done : (w v : ℕ) (t₁ t : List ℕ) → Starting deep l h deep w y t₀ t₁ → Starting deep l h 0 v y t₁ t
-        → Started arikan deep l h y t × Untouched deep l h t₀ t
-    start_done w v t₁ t a b = (
-      record { base = b.base; windows = λ k d e. b.windows k d e (omega arith); small = small },
-      record { same = b.rest.same ∙ a.rest.same; rest = λ j o. b.rest.rest j o ∙ a.rest.rest j o },
+    pub start_done : (t : List ℕ) → Starting deep l h 0 y t₀ t → Started arikan deep l h y t × Untouched deep l h t₀ t
+    start_done t a = (
+      record { base = a.base; windows = λ k d e. a.windows k d e (omega arith); small = small },
+      a.rest,
     )
 
   -- ---- what it means: with all even bits 0, and slot 0 for the one path, the tables are right for the empty prefix

@@ -3,12 +3,13 @@ use mathlib.Core.Path.{◌≡◌, refl, ◌∙◌, sym, ap, subst}
 use mathlib.Core.Logic.{◌⊎◌, ⊎_elim, inl, inr}
 use mathlib.Core.Bool.{Bool, true, false, not, cond}
 use mathlib.Core.List.{List}
-use Prim.Native.Nat.{ℕ, ◌+◌, ◌*◌, ◌-◌, ◌<◌, ◌≤◌}
+use Prim.Native.Nat.{ℕ, ◌+◌, ◌*◌, ◌-◌, ◌%◌, ◌<◌, ◌≤◌}
 use native.Mathlib.Nat.{not-suc-le-zero, eq-or-lt_of_le, zero-add}
 use native.Mathlib.Omega.{arith}
 use lib.ListN.{length, get_or, set, length-set}
 use lib.Seq.{get_or-set_same, get_or-set_other}
 use lib.Dec.{T, ltb, ltb→lt, nltb→le}
+use Rattle.laws.specs.Places.{carry}
 use Rattle.windows.specs.Op.{Wrote}
 use Rattle.tables.specs.Tab.{slot_start, WroteRows, Apart, mix, pair_f, push_f, sum_f, FitBits}
 use Rattle.tables.proofs.Places.{slot_apart, slot_at, slot_child, slot_mono}
@@ -51,6 +52,17 @@ rows_apart F o step count p k n t t' a l w i h
 pub mix_same : (arikan : Bool) (b b' : List ℕ) (p q i : ℕ) → get_or b' (p + i) 0 ≡ get_or b (p + i) 0
     → get_or b' (q + i) 0 ≡ get_or b (q + i) 0 → mix arikan b' p q i ≡ mix arikan b p q i
 mix_same arikan b b' p q i e f = rw (e, f)
+
+-- one byte more of a sum of two runs
+pub blend_more : (arikan : Bool) (b b' : List ℕ) (p q to w i x : ℕ) → Apart p w to w → Apart q w to w → i < w
+    → to + w ≤ length b → x ≡ carry arikan (get_or b' (q + i) 0 % 2) → Wrote (mix arikan b p q) to i b b'
+    → Wrote (mix arikan b p q) to (i + 1) b (set b' (to + i) ((get_or b' (p + i) 0 % 2 + x) % 2))
+blend_more arikan b b' p q to w i x ap aq hi room e a =
+    wrote_step (mix arikan b p q) to i ((get_or b' (p + i) 0 % 2 + x) % 2) b b' (omega arith)
+    (rw e (mix_same arikan b b' p q i
+    (wrote_apart (mix arikan b p q) to w i p w b b' ap (omega arith) a i hi)
+    (wrote_apart (mix arikan b p q) to w i q w b b' aq (omega arith) a i hi)))
+    a
 
 -- two halves
 pub cond_ltb : (m w x y z : ℕ) → (m < w → x ≡ z) → (w ≤ m → y ≡ z) → cond (ltb m w) x y ≡ z

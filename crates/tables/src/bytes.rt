@@ -4,29 +4,25 @@ ghost use Rattle.laws.specs.Places.{carry};
 ghost use Rattle.windows.specs.Op.{Wrote};
 ghost use Rattle.tables.specs.Tab.{slot_start, WroteRows, Slots, Apart, mix, pair_f, push_f, sum_f, FitBits};
 
-use crate::words::{place, place_of};
+use crate::words::place;
 
 // What an even bit adds to the children's bits: nothing in Arikan's transform.
 fn carried(x: u8, arikan: bool) -> u8
     ensures { (result ≡ carry arikan (x % 2)) × (result < 2) }
 {
-    if arikan {
-        return 0;
-    }
-    x % 2
+    if arikan { 0 } else { x % 2 }
 }
 
 // The sums of the w bits at p and at q, to the w bytes at `to`; in Arikan's transform the bits at
 // p alone.
+#[tactic(auto, using(crate::proofs::Sums::blend_more))]
 fn blend(b: &mut [u8], p: usize, q: usize, to: usize, w: usize, arikan: bool)
     requires { (p + w ≤ length b.old) × (q + w ≤ length b.old) × (to + w ≤ length b.old)
         × Apart p w to w × Apart q w to w }
     ensures { Wrote (mix arikan b.old p q) to w b.old b.new }
 {
-    let mut i = 0;
-    while i < w {
+    for i in 0..w {
         b[to + i] = (b[p + i] % 2 + carried(b[q + i], arikan)) % 2;
-        i += 1;
     }
 }
 
@@ -47,7 +43,7 @@ fn push_row(b: &mut [u8], w: usize, l: usize, h: usize, f: usize, r: usize, o: u
     ensures { Wrote (push_f arikan w l h b.old o r) (f + slot_start (2 * w) l r) (2 * w)
         b.old b.new }
 {
-    let from = place_of(w, l, o);
+    let from = place(w, l, usize::from(o));
     let e = place(w, l, r);
     let to = f + place(2 * w, l, r);
     pair(b, h + from, 2 * h + from, e, to, w, arikan);
@@ -70,10 +66,8 @@ pub(crate) fn push(
     ensures { WroteRows (λ r. push_f arikan w l h b.old (get_or slots.now (os + r) 0) r)
         (f + slot_start (2 * w) l 0) (2 * w) count b.old b.new }
 {
-    let mut r = 0;
-    while r < count {
+    for r in 0..count {
         push_row(b, w, l, h, f, r, slots[os + r], arikan);
-        r += 1;
     }
 }
 
@@ -83,7 +77,7 @@ fn sum_row(b: &mut [u8], w: usize, l: usize, h: usize, r: usize, s: u8)
     ensures { Wrote (sum_f w l h b.old s r) (h + slot_start w l r) w
         b.old b.new }
 {
-    let from = place_of(w, l, s);
+    let from = place(w, l, usize::from(s));
     let at = place(w, l, r);
     blend(b, from, 2 * h + at, h + at, w, false);
 }
@@ -102,9 +96,7 @@ pub(crate) fn sums(
     ensures { WroteRows (λ r. sum_f w l h b.old (get_or slots.now (ws + r) 0) r)
         (h + slot_start w l 0) w count b.old b.new }
 {
-    let mut r = 0;
-    while r < count {
+    for r in 0..count {
         sum_row(b, w, l, h, r, slots[ws + r]);
-        r += 1;
     }
 }

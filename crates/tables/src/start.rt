@@ -1,11 +1,10 @@
 // The start, where no bit is decided: the bottom's costs, and the windows of the empty prefix.
-ghost use Rattle.std.specs.Prelude.{◌≡◌, false, ◌+◌, ◌*◌, ◌≤◌, length, get_or};
+ghost use Rattle.std.specs.Prelude.{◌≡◌, false, ◌+◌, ◌*◌, ◌≤◌, length};
 ghost use Rattle.spec.specs.Score.{taken};
 ghost use Rattle.spec.specs.Faults.{some};
 ghost use Rattle.spec.specs.Refusals.{out_of_range};
 ghost use Rattle.laws.specs.Windows.{F};
 ghost use Rattle.laws.specs.Soft.{four_at};
-ghost use Rattle.windows.specs.Op.{Wrote};
 ghost use Rattle.tables.specs.Tab.{slot_start, WroteRows};
 ghost use Rattle.tables.specs.Start.{first_f, StartSize, Started, Untouched};
 
@@ -19,26 +18,12 @@ fn lay_costs(t: &mut [u32], soft: &[i16], dst: usize, q: usize, arikan: bool)
     ensures { WroteRows (λ i. F arikan (four_at (taken soft.now) q i)) (16 * dst) 16 q
         t.old t.new }
 {
-    let mut i = 0;
-    while i < q {
+    for i in 0..q {
         let a = taken_at(soft, i);
         let b = taken_at(soft, i + q);
         let c = taken_at(soft, i + 2 * q);
         let d = taken_at(soft, i + 3 * q);
         first_costs(t, 16 * (dst + i), a, b, c, d, arikan);
-        i += 1;
-    }
-}
-
-// The k words at src, to dst, which lies below them.
-fn copy_down(t: &mut [u32], src: usize, dst: usize, k: usize)
-    requires { (src + k ≤ length t.old) × (dst + k ≤ src) }
-    ensures { Wrote (λ x. get_or t.old (src + x) 0) dst k t.old t.new }
-{
-    let mut i = 0;
-    while i < k {
-        t[dst + i] = t[src + i];
-        i += 1;
     }
 }
 
@@ -47,8 +32,7 @@ fn first_pass(t: &mut [u32], src: usize, dst: usize, w: usize, arikan: bool)
     requires { (16 * (src + 2 * w) ≤ length t.old) × (dst + w ≤ src) }
     ensures { WroteRows (first_f arikan src w t.old) (16 * dst) 16 w t.old t.new }
 {
-    let mut i = 0;
-    while i < w {
+    for i in 0..w {
         first_node(
             t,
             16 * (src + i),
@@ -56,11 +40,11 @@ fn first_pass(t: &mut [u32], src: usize, dst: usize, w: usize, arikan: bool)
             16 * (dst + i),
             arikan,
         );
-        i += 1;
     }
 }
 
 // A layer of w nodes, in slot 0.
+#[tactic(auto, using(crate::proofs::Places::slot_apart, crate::proofs::Places::slot_child))]
 fn first_layer(t: &mut [u32], w: usize, l: usize, arikan: bool)
     requires { (w ≤ 1024) × (1 ≤ l) × (l ≤ 32) × (16 * slot_start (2 * w) l l ≤ length t.old) }
     ensures { WroteRows (first_f arikan (slot_start (2 * w) l 0) w t.old) (16 * slot_start w l 0) 16 w
@@ -79,12 +63,8 @@ pub fn start(t: &mut [u32], soft: &[i16], deep: usize, q: usize, l: usize, h: us
         × Untouched deep l h t.old t.new }
 {
     lay_costs(t, soft, h, q, arikan);
-    copy_down(t, 16 * h, 16 * place(q, l, 0), 16 * q);
-    let mut d = deep;
-    let mut w = q;
-    while 0 < d {
-        d = d - 1;
-        w = w / 2;
-        first_layer(t, w, l, arikan);
+    t.copy_within(16 * h..16 * (h + q), 16 * place(q, l, 0));
+    for d in (0..deep).rev() {
+        first_layer(t, 1 << d, l, arikan);
     }
 }

@@ -13,14 +13,6 @@ pub(crate) fn place(w: usize, l: usize, s: usize) -> usize
     w * (l + s)
 }
 
-// The same of a slot number.
-pub(crate) fn place_of(w: usize, l: usize, s: u8) -> usize
-    requires { (w ≤ 2048) × (l ≤ 32) × (s ≤ 32) }
-    ensures { Placed w l s result }
-{
-    place(w, l, s as usize)
-}
-
 // What the convolutional operator makes of the children of w nodes, whose windows are at src and their
 // odd bits at `odds`, with the nodes' even bits at `evens`, to dst.
 fn pass(
@@ -38,8 +30,7 @@ fn pass(
     ensures { WroteRows (plain_f even src w odds evens b.now t.old)
         (16 * dst) 16 w t.old t.new }
 {
-    let mut i = 0;
-    while i < w {
+    for i in 0..w {
         node(
             t,
             16 * (src + i),
@@ -50,7 +41,6 @@ fn pass(
             b[evens + i],
             even,
         );
-        i += 1;
     }
 }
 
@@ -64,10 +54,8 @@ fn finish_pass(t: &mut [u32], dst: usize, w: usize, left: usize, arikan: bool)
     if !arikan && 3 < left {
         return;
     }
-    let mut i = 0;
-    while i < w {
+    for i in 0..w {
         finish(t, 16 * (dst + i), left, arikan);
-        i += 1;
     }
 }
 
@@ -90,8 +78,8 @@ fn row(
         (16 * slot_start w l r) (16 * w) t.old t.new }
 {
     let v = 2 * w;
-    let src = place_of(v, l, s);
-    let odds = 2 * h + place_of(v, l, o);
+    let src = place(v, l, usize::from(s));
+    let odds = 2 * h + place(v, l, usize::from(o));
     let dst = place(w, l, r);
     pass(t, b, src, dst, w, odds, dst, even);
     finish_pass(t, dst, w, left, arikan);
@@ -119,8 +107,7 @@ pub(crate) fn layer(
         (get_or slots.now (ws + r) 0) (get_or slots.now (os + r) 0) r))
         (16 * slot_start w l 0) (16 * w) count t.old t.new }
 {
-    let mut r = 0;
-    while r < count {
+    for r in 0..count {
         row(
             t,
             b,
@@ -134,6 +121,5 @@ pub(crate) fn layer(
             even,
             arikan,
         );
-        r += 1;
     }
 }

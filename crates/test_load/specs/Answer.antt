@@ -1,13 +1,14 @@
 -- What the answers of a test load mean: the length and the next state, or the number that 02 gives for each case.
-use Rattle.std.specs.Prelude.{List, ℕ}
+use Rattle.std.specs.Prelude.{List, ℕ, Result, Ok, Err}
 use Rattle.spec.specs.TestLoad as spec
+use Rattle.refusals.specs.declared.Refusal.{Refusal}
+use Rattle.refusals.specs.Number.{number_of}
 use Rattle.test_load.specs.declared.Load.{Load}
-use Rattle.test_load.specs.declared.Load.TheVariants.{Made, Refused}
 use Rattle.test_load.specs.declared.host.LoadFields.{LoadFields}
 
-abbrev pub load_of : Load → spec.Load
-load_of (Made k t) = spec.loaded k t
-load_of (Refused k) = spec.refused_load k
+abbrev pub load_of : Result Load Refusal → spec.Load
+load_of (Ok x) = spec.loaded x.length x.state
+load_of (Err e) = spec.refused_load (number_of e)
 
 -- ---- for a host that has no enum: 0, the length and the next state, or the refusal number and 0 twice
 abbrev pub host_load : spec.Load → LoadFields

@@ -1,3 +1,2 @@
--- What the proofs of several functions use.
-mod SignedText
+-- What the proof of a function takes from outside its folder.
 mod Turns

@@ -1,6 +1,12 @@
 -- Numbers in decimal, as bytes.
 use Rattle.std.specs.Prelude.{◌≡◌, refl, Bool, true, false, cond, List, [], ◌∷◌, ◌++◌, ℕ, zero, suc, ◌+◌, ◌*◌, ◌/◌, ◌%◌, ◌^◌, ◌≤◌, ◌<◌, ltb, length, ℤ, pos, negsuc}
 use Rattle.std.proofs.Common.{sym, ap, ◌∙◌, not-suc-le-zero, pow-suc, arith, lt-ltb, le-ltb, ltb-true, ltb-false, length-append}
+use Rattle.std.specs.Fmt.{decimal as printed, signed_decimal as signed_printed}
+use Rattle.std.specs.Int.{w32}
+use Rattle.std.specs.Int.Signed.{mag}
+use mir.Val.{SFits, to_z, of_z}
+use Rattle.std.proofs.lemmas.Int.{to_z-of_z}
+use Rattle.std.proofs.lemmas.Fmt.{decimal_by_steps}
 
 -- the digits of n, highest first; any fuel above n is enough
 unfoldable pub digits : ℕ → ℕ → List ℕ
@@ -61,3 +67,15 @@ decimal_length (suc k) n h = by_test (ltb n 10) refl (decimal_length k (n / 10))
 -- 32 bits: at most 10 digits
 pub decimal_32 : (n : ℕ) → n < 4294967296 → length (decimal n) ≤ 10
 decimal_32 n h = decimal_length 9 n (omega arith)
+
+-- ---- what the library prints for a number of at most 64 bits
+pub as_printed : (n : ℕ) → n < 2 ^ 64 → printed n ≡ decimal n
+as_printed n h = decimal_by_steps (λ (k : ℕ) (ds : List ℕ). ds ≡ decimal k) (λ k l. sym (decimal_low k l)) (λ k ds l e. ap (λ (xs : List ℕ). xs ++ ((48 + k % 10) ∷ [])) e ∙ sym (decimal_high k l)) n h
+
+pub signed_as_printed : (z : ℤ) → mag z < 2 ^ 63 → signed_printed z ≡ signed_decimal z
+signed_as_printed (pos n) h = as_printed n (omega arith)
+signed_as_printed (negsuc n) h = ap (λ (l : List ℕ). 45 ∷ l) (as_printed (suc n) (omega arith))
+
+-- and for a signed number of 32 bits, read back from its bits as code passes it
+pub passed_as_printed : (z : ℤ) → SFits w32 z → signed_printed (to_z w32 (of_z w32 z)) ≡ signed_decimal z
+passed_as_printed z f = ap signed_printed (to_z-of_z w32 z f) ∙ signed_as_printed z (omega (arith, f.sfits))

@@ -1,15 +1,14 @@
 -- Arikan's transform in place: four bits at once, the loop that adds the second half to the first, and what a call on each half, one after
 -- the other, leaves. Assumes nothing.
 use mathlib.Core.Path.{◌≡◌, refl, sym, ap, ap₂, ◌∙◌}
-use mathlib.Core.List.{List, [], ◌∷◌, ◌++◌, append-nil}
+use mathlib.Core.List.{List, [], ◌∷◌, ◌++◌}
 use Prim.Native.Nat.{ℕ, zero, suc, ◌+◌, ◌-◌, ◌/◌, ◌^◌, ◌≤◌, ◌<◌}
 use native.Mathlib.Nat.{le_of_suc-le-suc, not-suc-le-zero, add_comm}
 use native.Mathlib.Numerals.{add-one}
 use native.Mathlib.Omega.{arith}
-use lib.ListN.{length, take, drop, get_or, set, length-append, length-take, length-drop, drop_of_length-le}
-use lib.Seq.{drop-cons, get_or_at, get_or-append-add, get_or-drop, set_at, append_snoc, take_at, drop_at, take_all}
+use lib.ListN.{length, take, drop, get_or, set, length-take, length-drop}
+use lib.Seq.{drop-cons, get_or_at, get_or-append-add, get_or-drop, set_at, append_snoc, take_at, drop_at}
 use lib.Bits.{bit_xor}
-use borrow.Rule.Slice.PartMut.{put_mid}
 use Rattle.spec.specs.Bits.{◌⊕◌, Bits, nil, cons}
 use Rattle.spec.specs.Transform.{added, arikan_transform}
 use Rattle.laws.specs.BitLaws.{⊕-lt, ⊕-xor, bits_at, bits_take, bits_drop}
@@ -73,20 +72,12 @@ pub record Adding (h : ℕ) (s₀ s : List ℕ) (i : ℕ) : Type 0 where
   pub near : i ≤ h
   pub sums : s ≡ added (take i s₀) (drop h s₀) ++ drop i s₀
 
-pub adding_none : (h : ℕ) (s : List ℕ) → Adding h s s 0
-adding_none h s = record { near = omega arith; sums = refl }
-
 module _ {h : ℕ} {s₀ s : List ℕ} {i : ℕ} (e : length s₀ ≡ h + h) (a : Adding h s₀ s i) where
   second_half : length (drop h s₀) ≡ h
   second_half = length-drop h s₀ ∙ omega arith
 
   summed : length (added (take i s₀) (drop h s₀)) ≡ i
   summed = length_sums i s₀ (drop h s₀) (omega (arith, a.near)) (omega (arith, a.near, second_half))
-
-  pub added_kept : length s ≡ length s₀
-  added_kept =
-      ap length a.sums ∙ length-append (added (take i s₀) (drop h s₀)) (drop i s₀)
-      ∙ omega (arith, summed, length-drop i s₀, a.near)
 
   pub adding_turn : Bits s₀ → i < h → Adding h s₀ (set s i (bit_xor (get_or s i 0) (get_or s (h + i) 0))) (i + 1)
   adding_turn t lt = record {
@@ -96,11 +87,6 @@ module _ {h : ℕ} {s₀ s : List ℕ} {i : ℕ} (e : length s₀ ≡ h + h) (a 
         ∙ ap (λ (l : List ℕ). l ++ drop (suc i) s₀) (sym (sums_more i s₀ (drop h s₀) (omega arith) (omega (arith, second_half))))
         ∙ ap (λ (k : ℕ). added (take k s₀) (drop h s₀) ++ drop k s₀) (sym (add-one i));
   }
-
-  pub adding_done : h ≤ i → s ≡ added (take h s₀) (drop h s₀) ++ drop h s₀
-  adding_done l =
-      let all : i ≡ h = omega (arith, a.near) in
-      a.sums ∙ ap (λ (k : ℕ). added (take k s₀) (drop h s₀) ++ drop k s₀) all
 
 -- ---- a word of 2 ^ m bits, m above 2, with its sums and its second half: M
 module _ {m h : ℕ} {s : List ℕ} (g : TwoHalves m h s) (more : 2 < m) where
@@ -153,16 +139,3 @@ module _ {m h : ℕ} {s : List ℕ} (g : TwoHalves m h s) (more : 2 < m) where
         ap₂ ◌++◌ (a ∙ ap (arikan_transform (m - 1)) first_is) (b ∙ ap (arikan_transform (m - 1)) second_is)
         ∙ ap (λ (k : ℕ). arikan_transform (m - 1) (added (take k s) (drop k s)) ++ arikan_transform (m - 1) (drop k s)) half_is
         ∙ ap (λ (k : ℕ). arikan_transform k s) up
-
--- ---- the part that the second call is lent is the second half, and when both are back, the list is the first call's and the second's
-module _ (A D : List ℕ) (h : ℕ) (e : length A ≡ h) where
-  pub second_lent : take (length (A ++ D) - h) (drop h (A ++ D)) ≡ D
-  second_lent =
-      ap (λ (l : List ℕ). take (length (A ++ D) - h) l) (drop_at A D h e)
-      ∙ take_all (length (A ++ D) - h) D (omega (arith, length-append A D))
-
-  pub second_put : (B : List ℕ) → put_mid h (length (A ++ D) - h) (A ++ D) B ≡ A ++ B
-  second_put B =
-      ap₂ (λ (u v : List ℕ). u ++ (B ++ drop (length (A ++ D) - h) v)) (take_at A D h e) (drop_at A D h e)
-      ∙ ap (λ (v : List ℕ). A ++ (B ++ v)) (drop_of_length-le D {i = length (A ++ D) - h} (omega (arith, length-append A D)))
-      ∙ ap (λ (l : List ℕ). A ++ l) (append-nil B)

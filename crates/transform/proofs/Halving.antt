@@ -1,10 +1,11 @@
 -- What a call of the recursion, above length 8, hands to its two calls: halves of 2 ^ (m - 1) bits. Assumes nothing.
 use mathlib.Core.Path.{◌≡◌}
+use mathlib.Core.Bool.{Bool}
 use mathlib.Core.List.{List}
 use Prim.Native.Nat.{ℕ, suc, ◌+◌, ◌-◌, ◌*◌, ◌/◌, ◌^◌, ◌<◌}
 use native.Mathlib.Omega.{arith}
-use Rattle.transform.specs.Strided.{Strided, Halved, split_at, join_at, transform_at, inverse_at}
-use Rattle.transform.proofs.Layers.{doubled, half_first, half_second, after_split, after_transform, after_inverse, transform_layer, inverse_layer}
+use Rattle.transform.specs.Strided.{Strided, Halved, turned_at, to_halves_at, from_halves_at}
+use Rattle.transform.proofs.Layers.{doubled, half_first, half_second, before_kept, turned_kept, turned_layer}
 
 module _ {m h at d : ℕ} {s : List ℕ} (w : Halved m h at d s) (more : 3 < m) where
   up : suc (m - 1) ≡ m
@@ -23,43 +24,30 @@ module _ {m h at d : ℕ} {s : List ℕ} (w : Halved m h at d s) (more : 3 < m) 
   halves : Strided (2 * 2 ^ (m - 1)) at d s
   halves = rw two_halves w.lies
 
-  pub for_pass : Strided (2 * h) at d s
-  for_pass = rw w.half w.lies
-
   call : {a e : ℕ} {t : List ℕ} → Strided (2 ^ (m - 1)) a e t → Halved (m - 1) (h / 2) a e t
   call g = record { least = omega arith; half = quarter_is; lies = g }
 
-  -- ---- the transform: split, then each half
-  module _ {s₁ : List ℕ} (q : s₁ ≡ split_at at d h s) where
-    splits : s₁ ≡ split_at at d (2 ^ (m - 1)) s
-    splits = rw half_is at q
+  -- ---- the pass before the halves, each half, the pass behind them
+  module _ (b : Bool) {s₁ : List ℕ} (q₁ : s₁ ≡ to_halves_at b at d h s) where
+    before : s₁ ≡ to_halves_at b at d (2 ^ (m - 1)) s
+    before = rw half_is at q₁
 
-    pub transform_first : Halved (m - 1) (h / 2) at (2 * d) s₁
-    transform_first = call (half_first (2 ^ (m - 1)) (after_split (m - 1) halves splits))
+    before_lies : Strided (2 * 2 ^ (m - 1)) at d s₁
+    before_lies = before_kept (m - 1) halves b before
 
-    module _ {s₂ : List ℕ} (q₂ : s₂ ≡ transform_at at (2 * d) (m - 1) s₁) where
-      pub transform_second : Halved (m - 1) (h / 2) (at + d) (2 * d) s₂
-      transform_second = call (half_second (2 ^ (m - 1)) (after_transform at (2 * d) (m - 1) q₂ (after_split (m - 1) halves splits)))
+    pub turn_first : Halved (m - 1) (h / 2) at (2 * d) s₁
+    turn_first = call (half_first (2 ^ (m - 1)) before_lies)
 
-      pub transform_done : {s₃ : List ℕ} → s₃ ≡ transform_at (at + d) (2 * d) (m - 1) s₂
-          → s₃ ≡ transform_at at d m s
-      transform_done q₃ = rw (up, two_halves) at (transform_layer (m - 1) halves splits q₂ q₃)
+    module _ {s₂ : List ℕ} (q₂ : s₂ ≡ turned_at b at (2 * d) (m - 1) s₁) where
+      first_lies : Strided (2 * 2 ^ (m - 1)) at d s₂
+      first_lies = turned_kept at (2 * d) (m - 1) b q₂ before_lies
 
-  -- ---- the inverse: each half, then join
-  pub inverse_first : Halved (m - 1) (h / 2) at (2 * d) s
-  inverse_first = call (half_first (2 ^ (m - 1)) halves)
+      pub turn_second : Halved (m - 1) (h / 2) (at + d) (2 * d) s₂
+      turn_second = call (half_second (2 ^ (m - 1)) first_lies)
 
-  module _ {s₁ : List ℕ} (q₁ : s₁ ≡ inverse_at at (2 * d) (m - 1) s) where
-    after_first : Strided (2 * 2 ^ (m - 1)) at d s₁
-    after_first = after_inverse at (2 * d) (m - 1) q₁ halves
+      module _ {s₃ : List ℕ} (q₃ : s₃ ≡ turned_at b (at + d) (2 * d) (m - 1) s₂) where
+        pub for_after : Strided (2 * h) at d s₃
+        for_after = rw half_is (turned_kept (at + d) (2 * d) (m - 1) b q₃ first_lies)
 
-    pub inverse_second : Halved (m - 1) (h / 2) (at + d) (2 * d) s₁
-    inverse_second = call (half_second (2 ^ (m - 1)) after_first)
-
-    module _ {s₂ : List ℕ} (q₂ : s₂ ≡ inverse_at (at + d) (2 * d) (m - 1) s₁) where
-      pub for_join : Strided (2 * h) at d s₂
-      for_join = rw half_is (after_inverse (at + d) (2 * d) (m - 1) q₂ after_first)
-
-      pub inverse_done : {s₃ : List ℕ} → s₃ ≡ join_at at d h s₂
-          → s₃ ≡ inverse_at at d m s
-      inverse_done q₃ = rw (up, two_halves) at (inverse_layer (m - 1) halves q₁ q₂ (rw half_is at q₃))
+        pub turn_done : {s₄ : List ℕ} → s₄ ≡ from_halves_at b at d h s₃ → s₄ ≡ turned_at b at d m s
+        turn_done q₄ = rw (up, two_halves) at (turned_layer (m - 1) halves b before q₂ q₃ (rw half_is at q₄))

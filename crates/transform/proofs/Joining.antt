@@ -1,5 +1,5 @@
 -- The pass that joins a word in place from the inputs of its halves, pair by pair from the end. Assumes nothing.
-use mathlib.Core.Path.{◌≡◌, sym, ap, ap₂, ◌∙◌}
+use mathlib.Core.Path.{◌≡◌, refl, sym, ap, ap₂, ◌∙◌}
 use mathlib.Core.List.{List, ◌∷◌}
 use Prim.Native.Nat.{ℕ, suc, ◌+◌, ◌-◌, ◌*◌, ◌≤◌, ◌<◌}
 use native.Mathlib.Nat.{mul-le-mul_left}
@@ -11,7 +11,7 @@ use Rattle.spec.specs.Bits.{◌⊕◌}
 use Rattle.spec.specs.Transform.{first_bit, joined}
 use Rattle.laws.specs.BitLaws.{⊕-xor, bits_at, bits_first}
 use Rattle.laws.specs.Inverse.{bits_joined}
-use Rattle.transform.specs.Strided.{Strided, picked, placed, join_at}
+use Rattle.transform.specs.Strided.{Strided, picked, placed}
 use Rattle.transform.proofs.Layers.{stride_some, twice}
 use Rattle.transform.proofs.Strides.{length_placed, bits_picked, get_before, one_less}
 
@@ -25,17 +25,10 @@ pub record Joined (h at d : ℕ) (s₀ s : List ℕ) (k i : ℕ) : Type 0 where
   pub place : i ≡ at + 2 * d * k
   pub done : s ≡ placed i d (rest h d k i s₀) s₀
 
-none_joined : (h at d : ℕ) {s : List ℕ} → Strided (2 * h) at d s → Joined h at d s s h (at + length s)
+none_joined : (h at d : ℕ) {s : List ℕ} → Strided (2 * h) at d s → Joined h at d s s h (at + 2 * d * h)
 none_joined h at d g =
     let none : h - h ≡ 0 = omega arith in
-    record { left = omega arith; place = ap (λ (l : ℕ). at + l) (g.long ∙ (omega arith)); done = rw none }
-
-pub joined_all : {h at d : ℕ} {s₀ s : List ℕ} {k i : ℕ} → k ≡ 0 → Joined h at d s₀ s k i
-    → s ≡ join_at at d h s₀
-joined_all {h} {at} {d} {s₀} {s} {k} {i} e t =
-    let all : h - k ≡ h = omega arith in
-    let front : i ≡ at = t.place ∙ (rw e (omega arith)) in
-    rw (all, front) at t.done
+    record { left = omega arith; place = refl; done = rw none }
 
 module _ {h at d : ℕ} {s₀ s : List ℕ} {k i : ℕ} (g : Strided (2 * h) at d s₀) (t : Joined h at d s₀ s k i) where
   room : 0 < d
@@ -44,43 +37,38 @@ module _ {h at d : ℕ} {s₀ s : List ℕ} {k i : ℕ} (g : Strided (2 * h) at 
   pub kept : length s ≡ length s₀
   kept = ap length t.done ∙ length_placed i d (rest h d k i s₀) s₀
 
-  -- ---- the pair of the next turn, at i - 2 d and at i - d
+  -- ---- the pair of the next turn, at j = at + 2 d (k - 1) and at j + d
+  abbrev j : ℕ
+  j = at + 2 * d * (k - 1)
+
   module _ (n : 0 < k) where
-    pairs : 2 * d * k ≡ 2 * d * (k - 1) + 2 * d
-    pairs = one_less (2 * d) k n
-
-    pub step_fits : 2 * d ≤ i
-    step_fits = omega (arith, t.place, pairs)
-
-    pub second_fits : i - 2 * d + d < length s
-    second_fits = rw kept (omega (arith, t.place, pairs, g.first, twice h g, mul-le-mul_left (2 * d) t.left))
+    back : j + 2 * d ≡ i
+    back = omega (arith, t.place, one_less (2 * d) k n)
 
     unread : (q : ℕ) → q < i → get_or s q 0 ≡ get_or s₀ q 0
     unread q l = ap (λ (r : List ℕ). get_or r q 0) t.done ∙ get_before i d (rest h d k i s₀) s₀ q l
 
     turn : (next : ℕ) → next ≡ first_bit (rest h d k i s₀) → Joined h at d s₀
-        (set (set s (i - 2 * d) (bit_xor (get_or s (i - 2 * d) 0) (get_or s (i - 2 * d + d) 0))) (i - 2 * d + d) (bit_xor (get_or s (i - 2 * d + d) 0) next))
-        (k - 1) (i - 2 * d)
+        (set (set s j (bit_xor (get_or s j 0) (get_or s (j + d) 0))) (j + d) (bit_xor (get_or s (j + d) 0) next))
+        (k - 1) j
     turn next carried =
-        let j : ℕ = i - 2 * d in
         let x : ℕ = get_or s₀ j 0 in
         let y : ℕ = get_or s₀ (j + d) 0 in
         let r : List ℕ = rest h d k i s₀ in
-        let rx : get_or s j 0 ≡ x = unread j (omega (arith, step_fits, room)) in
-        let ry : get_or s (j + d) 0 ≡ y = unread (j + d) (omega (arith, step_fits, room)) in
+        let rx : get_or s j 0 ≡ x = unread j (omega (arith, back, room)) in
+        let ry : get_or s (j + d) 0 ≡ y = unread (j + d) (omega (arith, back, room)) in
         let hy : y < 2 = bits_at g.bits (j + d) in
         let hn : first_bit r < 2 = bits_first (bits_joined (bits_picked i (2 * d) (h - k) g.bits) (bits_picked (i + d) (2 * d) (h - k) g.bits)) in
         let ex : bit_xor (get_or s j 0) (get_or s (j + d) 0) ≡ x ⊕ y = ap₂ bit_xor rx ry ∙ sym (⊕-xor x y (bits_at g.bits j) hy) in
         let ey : bit_xor (get_or s (j + d) 0) next ≡ y ⊕ first_bit r = ap₂ bit_xor ry carried ∙ sym (⊕-xor y (first_bit r) hy hn) in
-        let b : j + d + d ≡ i = omega (arith, step_fits) in
-        let b₁ : j + 2 * d ≡ i = omega (arith, step_fits) in
-        let b₂ : j + d + 2 * d ≡ i + d = omega (arith, step_fits) in
+        let b : j + d + d ≡ i = omega (arith, back) in
+        let b₂ : j + d + 2 * d ≡ i + d = omega (arith, back) in
         let more : h - (k - 1) ≡ suc (h - k) = omega (arith, t.left) in
-        let more_a : picked j (2 * d) (h - (k - 1)) s₀ ≡ x ∷ picked i (2 * d) (h - k) s₀ = rw more (ap (λ (q : ℕ). x ∷ picked q (2 * d) (h - k) s₀) b₁) in
+        let more_a : picked j (2 * d) (h - (k - 1)) s₀ ≡ x ∷ picked i (2 * d) (h - k) s₀ = rw more (ap (λ (q : ℕ). x ∷ picked q (2 * d) (h - k) s₀) back) in
         let more_b : picked (j + d) (2 * d) (h - (k - 1)) s₀ ≡ y ∷ picked (i + d) (2 * d) (h - k) s₀ = rw more (ap (λ (q : ℕ). y ∷ picked q (2 * d) (h - k) s₀) b₂) in
         record {
           left = omega (arith, t.left);
-          place = omega (arith, t.place, pairs);
+          place = refl;
           done = rw (ex, ey, more_a, more_b)
               (ap (λ (w : List ℕ). set (set w j (x ⊕ y)) (j + d) (y ⊕ first_bit r)) (t.done ∙ ap (λ (q : ℕ). placed q d r s₀) (sym b))
               ∙ set_comm (placed (j + d + d) d r s₀) j (j + d) (x ⊕ y) (y ⊕ first_bit r) (λ (z : j ≡ j + d). omega (arith, room)));
@@ -105,24 +93,22 @@ module _ {h at d : ℕ} {s₀ s : List ℕ} {k i : ℕ} (g : Strided (2 * h) at 
       ∙ sym (ap first_bit first)
 
   pub joined_turn : k < h → 0 < k → Joined h at d s₀
-      (set (set s (i - 2 * d) (bit_xor (get_or s (i - 2 * d) 0) (get_or s (i - 2 * d + d) 0))) (i - 2 * d + d)
-      (bit_xor (get_or s (i - 2 * d + d) 0) (get_or (set s (i - 2 * d) (bit_xor (get_or s (i - 2 * d) 0) (get_or s (i - 2 * d + d) 0))) (i - 2 * d + 2 * d) 0)))
-      (k - 1) (i - 2 * d)
+      (set (set s j (bit_xor (get_or s j 0) (get_or s (j + d) 0))) (j + d)
+      (bit_xor (get_or s (j + d) 0) (get_or (set s j (bit_xor (get_or s j 0) (get_or s (j + d) 0))) (j + 2 * d) 0)))
+      (k - 1) j
   joined_turn m n =
-      let j : ℕ = i - 2 * d in
       let v : ℕ = bit_xor (get_or s j 0) (get_or s (j + d) 0) in
-      let b : j + 2 * d ≡ i = omega (arith, step_fits n) in
       turn n (get_or (set s j v) (j + 2 * d) 0)
-      (ap (λ (q : ℕ). get_or (set s j v) q 0) b ∙ get_or-set_other s j i v 0 (λ (e : i ≡ j). omega (arith, step_fits n, room)) ∙ front m)
+      (ap (λ (q : ℕ). get_or (set s j v) q 0) (back n) ∙ get_or-set_other s j i v 0 (λ (e : i ≡ j). omega (arith, back n, room)) ∙ front m)
 
 -- ---- the last pair of the word, behind which nothing stands
 pub joined_first : (h at d : ℕ) {s : List ℕ} → Strided (2 * h) at d s → Joined h at d s
-    (set s (at + length s - 2 * d) (bit_xor (get_or s (at + length s - 2 * d) 0) (get_or s (at + length s - 2 * d + d) 0))) (h - 1) (at + length s - 2 * d)
+    (set s (at + 2 * d * (h - 1)) (bit_xor (get_or s (at + 2 * d * (h - 1)) 0) (get_or s (at + 2 * d * (h - 1) + d) 0))) (h - 1) (at + 2 * d * (h - 1))
 joined_first h at d {s} g =
-    let j : ℕ = at + length s - 2 * d in
+    let j : ℕ = at + 2 * d * (h - 1) in
     let y : ℕ = get_or s (j + d) 0 in
     let v : ℕ = bit_xor (get_or s j 0) y in
-    let t : Joined h at d s s h (at + length s) = none_joined h at d g in
+    let t : Joined h at d s s h (at + 2 * d * h) = none_joined h at d g in
     let n : 0 < h = omega (arith, g.some) in
     let none : h - h ≡ 0 = omega arith in
     let same : bit_xor y 0 ≡ get_or (set s j v) (j + d) 0
@@ -130,9 +116,3 @@ joined_first h at d {s} g =
     ∙ sym (get_or-set_other s j (j + d) v 0 (λ (e : j + d ≡ j). omega (arith, g.first))) in
     let stays : set (set s j v) (j + d) (bit_xor y 0) ≡ set s j v = ap (set (set s j v) (j + d)) same ∙ set-get_or (set s j v) (j + d) 0 in
     rw stays at (turn g t n 0 (rw none))
-
-pub last_step : (h at d : ℕ) {s : List ℕ} → Strided (2 * h) at d s → 2 * d ≤ at + length s
-last_step h at d g = step_fits g (none_joined h at d g) (omega (arith, g.some))
-
-pub last_fits : (h at d : ℕ) {s : List ℕ} → Strided (2 * h) at d s → at + length s - 2 * d + d < length s
-last_fits h at d g = second_fits g (none_joined h at d g) (omega (arith, g.some))

@@ -1,14 +1,15 @@
 -- A layer in place: a word of 2 h bits at a stride, and its two halves of h bits at twice the stride. Assumes nothing.
 use mathlib.Core.Path.{◌≡◌, refl, sym, ap, ap₂, ◌∙◌}
+use mathlib.Core.Bool.{Bool, true, false}
 use mathlib.Core.List.{List, [], ◌∷◌}
-use Prim.Native.Nat.{ℕ, suc, ◌+◌, ◌-◌, ◌*◌, ◌^◌, ◌≤◌, ◌<◌}
-use native.Mathlib.Nat.{mul-le-mul_left}
+use Prim.Native.Nat.{ℕ, suc, ◌+◌, ◌-◌, ◌*◌, ◌^◌, ◌<◌}
 use native.Mathlib.Omega.{arith}
 use lib.ListN.{length}
+use Rattle.std.specs.Prelude.{cond}
 use Rattle.spec.specs.Bits.{Bits}
 use Rattle.spec.specs.Transform.{input_a, input_b, interleave, evens, odds, joined, transform, inverse}
 use Rattle.laws.specs.Inverse.{bits_input_a, bits_input_b, length_transform, bits_transform, bits_inverse, length_input_a_pow, length_input_b_pow, length_inverse}
-use Rattle.transform.specs.Strided.{Strided, picked, placed, split_at, join_at, transform_at, inverse_at}
+use Rattle.transform.specs.Strided.{Strided, picked, placed, split_at, join_at, transform_at, inverse_at, turned_at, to_halves_at, from_halves_at}
 use Rattle.transform.proofs.Strides.{length_picked, length_placed, bits_picked, bits_placed, placed_again, picked_placed, picked_second, picked_first, crossed, evens_picked, odds_picked, placed_halves}
 
 pub doubled : (m : ℕ) → 0 < m → 2 * 2 ^ (m - 1) ≡ 2 ^ m
@@ -19,9 +20,6 @@ doubled m h =
 pub stride_some : {k at d : ℕ} {s : List ℕ} → Strided k at d s → 0 < d
 stride_some g = omega (arith, g.first)
 
-pub stride_fits : {k at d : ℕ} {s : List ℕ} → Strided k at d s → d ≤ 1024
-stride_fits {k} {at} {d} g = omega (arith, g.long, g.fits, mul-le-mul_left d g.some)
-
 -- what stays where bits have been placed
 after : {k at d : ℕ} {w s t : List ℕ} (a e : ℕ) → t ≡ placed a e w s → Bits w → Strided k at d s → Strided k at d t
 after {w = w} {s} {t} a e q b g =
@@ -29,11 +27,15 @@ after {w = w} {s} {t} a e q b g =
     record { some = g.some; first = g.first; long = l ∙ g.long; fits = rw l g.fits; bits = rw q (bits_placed a e b g.bits) }
 
 module _ {k at d : ℕ} {s t : List ℕ} (a e m : ℕ) where
-  pub after_transform : t ≡ transform_at a e m s → Strided k at d s → Strided k at d t
+  after_transform : t ≡ transform_at a e m s → Strided k at d s → Strided k at d t
   after_transform q g = after a e q (bits_transform m (bits_picked a e (2 ^ m) g.bits)) g
 
-  pub after_inverse : t ≡ inverse_at a e m s → Strided k at d s → Strided k at d t
+  after_inverse : t ≡ inverse_at a e m s → Strided k at d s → Strided k at d t
   after_inverse q g = after a e q (bits_inverse m (bits_picked a e (2 ^ m) g.bits)) g
+
+  pub turned_kept : (b : Bool) → t ≡ turned_at b a e m s → Strided k at d s → Strided k at d t
+  turned_kept true = after_inverse
+  turned_kept false = after_transform
 
 same_length : (p q : List ℕ) → length (interleave p q) ≡ length (joined p q)
 same_length [] q = refl
@@ -119,10 +121,10 @@ module _ (m : ℕ) {at d : ℕ} {s : List ℕ} (g : Strided (2 * 2 ^ m) at d s) 
   bits_word = bits_picked at d (2 * 2 ^ m) g.bits
 
   -- the slice once the inputs of the halves are placed, and once the first half is transformed
-  pub after_split : {s₁ : List ℕ} → s₁ ≡ split_at at d (2 ^ m) s → Strided (2 * 2 ^ m) at d s₁
+  after_split : {s₁ : List ℕ} → s₁ ≡ split_at at d (2 ^ m) s → Strided (2 * 2 ^ m) at d s₁
   after_split q = after at (2 * d) q (bits_input_a bits_word) (after (at + d) (2 * d) refl (bits_input_b bits_word) g)
 
-  pub transform_layer : {s₁ s₂ s₃ : List ℕ}
+  transform_layer : {s₁ s₂ s₃ : List ℕ}
       → s₁ ≡ split_at at d (2 ^ m) s
       → s₂ ≡ transform_at at (2 * d) m s₁
       → s₃ ≡ transform_at (at + d) (2 * d) m s₂
@@ -134,7 +136,7 @@ module _ (m : ℕ) {at d : ℕ} {s : List ℕ} (g : Strided (2 * 2 ^ m) at d s) 
       let lb : length (input_b u) ≡ 2 ^ m = length_input_b_pow m u long_word in
       layered (2 ^ m) g (transform m) (input_a u) (input_b u) la lb (length_transform m (input_a u) la) (length_transform m (input_b u) lb)
 
-  pub inverse_layer : {s₁ s₂ s₃ : List ℕ}
+  inverse_layer : {s₁ s₂ s₃ : List ℕ}
       → s₁ ≡ inverse_at at (2 * d) m s
       → s₂ ≡ inverse_at (at + d) (2 * d) m s₁
       → s₃ ≡ join_at at d (2 ^ m) s₂
@@ -147,3 +149,17 @@ module _ (m : ℕ) {at d : ℕ} {s : List ℕ} (g : Strided (2 * 2 ^ m) at d s) 
       let la : length (evens u) ≡ 2 ^ m = ap length (sym even) ∙ length_picked at (2 * d) (2 ^ m) s in
       let lb : length (odds u) ≡ 2 ^ m = ap length (sym odd) ∙ length_picked (at + d) (2 * d) (2 ^ m) s in
       unlayered (2 ^ m) g (inverse m) (evens u) (odds u) even odd (length_inverse m (evens u) la) (length_inverse m (odds u) lb)
+
+  -- ---- the one or the other
+  pub before_kept : (b : Bool) {s₁ : List ℕ} → s₁ ≡ to_halves_at b at d (2 ^ m) s → Strided (2 * 2 ^ m) at d s₁
+  before_kept true q = rw q g
+  before_kept false q = after_split q
+
+  pub turned_layer : (b : Bool) {s₁ s₂ s₃ s₄ : List ℕ}
+      → s₁ ≡ to_halves_at b at d (2 ^ m) s
+      → s₂ ≡ turned_at b at (2 * d) m s₁
+      → s₃ ≡ turned_at b (at + d) (2 * d) m s₂
+      → s₄ ≡ from_halves_at b at d (2 ^ m) s₃
+      → s₄ ≡ cond b (placed at d (inverse (suc m) (picked at d (2 * 2 ^ m) s)) s) (placed at d (transform (suc m) (picked at d (2 * 2 ^ m) s)) s)
+  turned_layer true q₁ q₂ q₃ q₄ = inverse_layer (rw q₁ at q₂) q₃ q₄
+  turned_layer false q₁ q₂ q₃ q₄ = q₄ ∙ transform_layer q₁ q₂ q₃

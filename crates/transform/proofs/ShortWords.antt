@@ -1,6 +1,6 @@
 -- Words of four bits, as numbers below 16. Assumes nothing.
 use mathlib.Core.Path.{◌≡◌, sym, ap, ap₂, ◌∙◌}
-use mathlib.Core.Bool.{Bool}
+use mathlib.Core.Bool.{Bool, true, false}
 use mathlib.Core.List.{List, [], ◌∷◌}
 use Prim.Native.Nat.{ℕ, ◌+◌, ◌*◌, ◌/◌, ◌%◌, ◌<◌}
 use native.Mathlib.Omega.{arith}
@@ -10,7 +10,8 @@ use Rattle.spec.specs.Bits.{Bits, bits_of, packed}
 use Rattle.spec.specs.Transform.{transform, inverse, table_entry}
 use Rattle.laws.specs.BitLaws.{packed_lt, bits_of_packed}
 use Rattle.laws.specs.Inverse.{length_transform, bits_transform, bits_inverse, length_inverse}
-use Rattle.transform.specs.Strided.{Strided, picked, placed, transform_at, inverse_at}
+use Rattle.transform.specs.Strided.{Strided, picked, placed, transform_at, inverse_at, turned_at}
+use Rattle.transform.specs.Word.{turned_entry}
 use Rattle.laws.specs.EveryEntry.{at}
 use Rattle.transform.proofs.Strides.{length_picked, bits_picked, set_before, next_pair}
 
@@ -71,8 +72,12 @@ module _ {s : List ℕ} (p : Bits s) (e : length s ≡ 4) where
 
 -- ---- the same where the word lies
 module _ {at d : ℕ} {s : List ℕ} (g : Strided 4 at d s) where
-  pub transform_four_at : placed at d (bits_of 4 (table_entry (packed (picked at d 4 s)))) s ≡ transform_at at d 2 s
+  transform_four_at : placed at d (bits_of 4 (table_entry (packed (picked at d 4 s)))) s ≡ transform_at at d 2 s
   transform_four_at = ap (λ (w : List ℕ). placed at d w s) (transform_four (bits_picked at d 4 g.bits) (length_picked at d 4 s))
 
-  pub inverse_four_at : placed at d (bits_of 4 (table_entry (table_entry (table_entry (packed (picked at d 4 s)))))) s ≡ inverse_at at d 2 s
+  inverse_four_at : placed at d (bits_of 4 (table_entry (table_entry (table_entry (packed (picked at d 4 s)))))) s ≡ inverse_at at d 2 s
   inverse_four_at = ap (λ (w : List ℕ). placed at d w s) (inverse_four (bits_picked at d 4 g.bits) (length_picked at d 4 s))
+
+  pub turned_four_at : (b : Bool) → placed at d (bits_of 4 (turned_entry b (packed (picked at d 4 s)))) s ≡ turned_at b at d 2 s
+  turned_four_at true = inverse_four_at
+  turned_four_at false = transform_four_at

@@ -1,5 +1,5 @@
 -- The pass that splits a word in place into the inputs of its halves, pair by pair from the front. Assumes nothing.
-use mathlib.Core.Path.{◌≡◌, refl, sym, ap, ap₂, ◌∙◌}
+use mathlib.Core.Path.{◌≡◌, sym, ap, ap₂, ◌∙◌}
 use mathlib.Core.List.{List, ◌∷◌}
 use Prim.Native.Nat.{ℕ, suc, ◌+◌, ◌-◌, ◌*◌, ◌<◌}
 use native.Mathlib.Omega.{arith}
@@ -12,7 +12,7 @@ use Rattle.laws.specs.BitLaws.{⊕-lt, ⊕-xor, bits_at}
 use Rattle.laws.specs.Inverse.{input_a_cons, input_b_cons}
 use Rattle.transform.specs.Strided.{Strided, picked, placed, split_at}
 use Rattle.transform.proofs.Layers.{stride_some}
-use Rattle.transform.proofs.Strides.{bits_set, set_before, picked_set, one_more, one_less}
+use Rattle.transform.proofs.Strides.{bits_set, set_before, picked_set, one_more}
 
 -- where the loop stands: k + 1 pairs are left from i on, and to split these is what is left of the whole
 pub record Split (h at d : ℕ) (s₀ s : List ℕ) (k i : ℕ) : Type 0 where
@@ -20,11 +20,6 @@ pub record Split (h at d : ℕ) (s₀ s : List ℕ) (k i : ℕ) : Type 0 where
   pub kept : length s ≡ length s₀
   pub bits : Bits s
   pub rest : split_at at d h s₀ ≡ split_at i d (suc k) s
-
-pub split_none : (h at d : ℕ) {s : List ℕ} → Strided (2 * h) at d s → Split h at d s s (h - 1) at
-split_none h at d {s} g =
-    let more : suc (h - 1) ≡ h = omega (arith, g.some) in
-    record { place = rw more (ap (λ (l : ℕ). at + l) ((omega arith) ∙ sym g.long)); kept = refl; bits = g.bits; rest = rw more }
 
 -- the front pair is written first
 front_pair : (j d a b : ℕ) (p q s : List ℕ) → 0 < d
@@ -42,12 +37,6 @@ module _ {h at d : ℕ} {s₀ s : List ℕ} {k i : ℕ} (g : Strided (2 * h) at 
 
   pairs : 2 * d * suc k ≡ 2 * d * k + 2 * d
   pairs = omega arith
-
-  pub second_fits : i + d < length s
-  second_fits = omega (arith, t.place, t.kept, pairs, g.first)
-
-  pub third_fits : 0 < k → i + 2 * d < length s
-  third_fits n = omega (arith, t.place, t.kept, pairs, one_less (2 * d) k n, g.first)
 
   -- ---- a pair that another one follows
   pub split_turn : 0 < k → Split h at d s₀

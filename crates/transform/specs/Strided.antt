@@ -1,5 +1,5 @@
 -- A word that lies in a slice at a stride: at the place `at`, and at every d-th place behind it.
-use Rattle.std.specs.Prelude.{◌≡◌, List, [], ◌∷◌, ℕ, zero, suc, ◌+◌, ◌*◌, ◌^◌, ◌≤◌, ◌<◌, length, get_or, set}
+use Rattle.std.specs.Prelude.{◌≡◌, Bool, cond, List, [], ◌∷◌, ℕ, zero, suc, ◌+◌, ◌*◌, ◌^◌, ◌≤◌, ◌<◌, length, get_or, set}
 use Rattle.spec.specs.Bits.{Bits}
 use Rattle.spec.specs.Transform.{input_a, input_b, joined, transform, inverse}
 
@@ -27,6 +27,16 @@ transform_at at d m s = placed at d (transform m (picked at d (2 ^ m) s)) s
 
 abbrev pub inverse_at : ℕ → ℕ → ℕ → List ℕ → List ℕ
 inverse_at at d m s = placed at d (inverse m (picked at d (2 ^ m) s)) s
+
+-- the one or, where `inv` is true, the other; and what is done to a word of 2 h bits before its halves, and behind them
+abbrev pub turned_at : Bool → ℕ → ℕ → ℕ → List ℕ → List ℕ
+turned_at inv at d m s = cond inv (inverse_at at d m s) (transform_at at d m s)
+
+abbrev pub to_halves_at : Bool → ℕ → ℕ → ℕ → List ℕ → List ℕ
+to_halves_at inv at d h s = cond inv s (split_at at d h s)
+
+abbrev pub from_halves_at : Bool → ℕ → ℕ → ℕ → List ℕ → List ℕ
+from_halves_at inv at d h s = cond inv (join_at at d h s) s
 
 -- d words of k bits each fill the slice; the one at `at` is meant
 pub record Strided (k at d : ℕ) (s : List ℕ) : Type 0 where

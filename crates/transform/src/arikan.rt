@@ -22,11 +22,9 @@ fn add_halves(s: &mut [u8], h: usize)
     requires { (length s.old ≡ h + h) × Bits s.old }
     ensures { s.new ≡ added (take h s.old) (drop h s.old) ++ drop h s.old }
 {
-    let mut i = 0;
-    while i < h {
+    for i in 0..h {
         let j = h + i;
-        s[i] = s[i] ^ s[j];
-        i += 1;
+        s[i] ^= s[j];
     }
 }
 
@@ -40,6 +38,7 @@ pub(crate) fn polarise(s: &mut [u8], m: u32, h: usize)
         return;
     }
     add_halves(s, h);
-    polarise(&mut s[..h], m - 1, h / 2);
-    polarise(&mut s[h..], m - 1, h / 2);
+    let (v, w) = s.split_at_mut(h);
+    polarise(v, m - 1, h / 2);
+    polarise(w, m - 1, h / 2);
 }

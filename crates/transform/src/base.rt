@@ -1,11 +1,12 @@
 // The shortest words: four bits by the table, and eight by their halves of four.
 ghost use Rattle.std.specs.Prelude.{◌≡◌, ◌<◌};
 ghost use Rattle.spec.specs.Bits.{bits_of, packed};
-ghost use Rattle.transform.specs.Strided.{Strided, picked, placed, transform_at, inverse_at};
+ghost use Rattle.transform.specs.Strided.{Strided, picked, placed, turned_at};
 
 use crate::{layer, table};
 
 // The number whose bits these are, lowest first.
+#[tactic(auto, using(laws::specs::BitLaws::bits_at))]
 fn pack(s: &[u8], at: usize, d: usize) -> u8
     requires { Strided 4 at d s.now }
     ensures { (result ≡ packed (picked at d 4 s.now)) × (result < 16) }
@@ -27,38 +28,22 @@ fn unpack(s: &mut [u8], at: usize, d: usize, x: u8)
     s[at + 3 * d] = x / 2 / 2 / 2;
 }
 
-pub(crate) fn transform_four(s: &mut [u8], at: usize, d: usize)
+// The table's entry at the number of the word has the bits of its transform.
+pub(crate) fn four<const INVERSE: bool>(s: &mut [u8], at: usize, d: usize)
     requires { Strided 4 at d s.old }
-    ensures { s.new ≡ transform_at at d 2 s.old }
+    ensures { s.new ≡ turned_at INVERSE at d 2 s.old }
 {
     let x = pack(s, at, d);
-    let y = table::entry(x);
+    let y = table::turned_entry::<INVERSE>(x);
     unpack(s, at, d, y);
 }
 
-pub(crate) fn invert_four(s: &mut [u8], at: usize, d: usize)
-    requires { Strided 4 at d s.old }
-    ensures { s.new ≡ inverse_at at d 2 s.old }
-{
-    let x = pack(s, at, d);
-    let y = table::inverse_entry(x);
-    unpack(s, at, d, y);
-}
-
-pub(crate) fn transform_eight(s: &mut [u8], at: usize, d: usize)
+pub(crate) fn eight<const INVERSE: bool>(s: &mut [u8], at: usize, d: usize)
     requires { Strided 8 at d s.old }
-    ensures { s.new ≡ transform_at at d 3 s.old }
+    ensures { s.new ≡ turned_at INVERSE at d 3 s.old }
 {
-    layer::split(s, at, d, 4);
-    transform_four(s, at, 2 * d);
-    transform_four(s, at + d, 2 * d);
-}
-
-pub(crate) fn invert_eight(s: &mut [u8], at: usize, d: usize)
-    requires { Strided 8 at d s.old }
-    ensures { s.new ≡ inverse_at at d 3 s.old }
-{
-    invert_four(s, at, 2 * d);
-    invert_four(s, at + d, 2 * d);
-    layer::join(s, at, d, 4);
+    layer::to_halves::<INVERSE>(s, at, d, 4);
+    four::<INVERSE>(s, at, 2 * d);
+    four::<INVERSE>(s, at + d, 2 * d);
+    layer::from_halves::<INVERSE>(s, at, d, 4);
 }

@@ -53,13 +53,6 @@ inside_room (suc (suc zero)) x h = refl
 inside_room (suc (suc (suc zero))) x h = absurd (omega arith)
 inside_room (suc (suc (suc (suc n)))) x h = refl
 
-pub masked_full : (n : ℕ) (s : Sixteen) → (n ≡ 1 → ⊥) → (n ≡ 3 → ⊥) → s ≡ masked n s
-masked_full zero s p q = refl
-masked_full (suc zero) s p q = absurd (p refl)
-masked_full (suc (suc zero)) s p q = refl
-masked_full (suc (suc (suc zero))) s p q = absurd (q refl)
-masked_full (suc (suc (suc (suc n)))) s p q = refl
-
 -- ---- the order of the transform
 order_of : (arikan : Bool) (f : ℕ → ℕ) → rearranged (order_at arikan) (sixteen f) ≡ sixteen (λ x. f (order_at arikan x))
 order_of true f = refl

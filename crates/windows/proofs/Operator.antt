@@ -86,6 +86,13 @@ even_bottom t p z = sixteen_ext _ _ (at 0) (at 1) (at 2) (at 3) (at 4) (at 5) (a
     at : (c : ℕ) → get_or t (p + z + 2 * c) 0 ≡ get_or t (p + (z + 2 * c)) 0
     at c = ap (λ (k : ℕ). get_or t k 0) (omega arith)
 
+pub last_bottom : (t : List ℕ) (p z : ℕ)
+    → sixteen (λ x. get_or (get_or t (p + z) 0 ∷ get_or t (p + z + 8) 0 ∷ []) (x % 2) 0) ≡ sixteen (bottom_f true t p z)
+last_bottom t p z =
+    let e : get_or t (p + z) 0 ≡ get_or t (p + (z + 0)) 0 = ap (λ (k : ℕ). get_or t k 0) (omega arith) in
+    let f : get_or t (p + z + 8) 0 ≡ get_or t (p + (z + 8)) 0 = ap (λ (k : ℕ). get_or t k 0) (omega arith) in
+    sixteen_ext _ _ e f e f e f e f e f e f e f e f
+
 -- ---- the top
 pub peek_least : (b : Bool) (o : ℕ) (t : List ℕ) (p x : ℕ)
     → least (λ u. least (λ v. three (read_b b o t p) x u v)) ≡ peek (kind_b b) (tab_at t p o) x

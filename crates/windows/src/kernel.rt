@@ -5,13 +5,12 @@ ghost use Rattle.windows.specs.Op.{wrap_of, entry, sixteen, rearranged, order_at
 use crate::ends::ends;
 use crate::table::{read, store, window_at};
 use crate::window::{Eight, Sixteen, least};
-use std::num::wrapping_add_u32;
 
 // The lesser of two sums. They wrap, so that nothing is asked of the costs; callers know that they are small.
 fn cell(a: u32, b: u32, c: u32, d: u32) -> u32
     ensures { result ≡ min ((a + b) % 2 ^ 32) ((c + d) % 2 ^ 32) }
 {
-    least(wrapping_add_u32(a, b), wrapping_add_u32(c, d))
+    least(a.wrapping_add(b), c.wrapping_add(d))
 }
 
 fn pick(e: u8, a: u32, b: u32) -> u32

@@ -1,0 +1,6 @@
+use Rattle.std.proofs.Common.{arith}
+use Rattle.place.specs.Put.{then}
+use Rattle.log_lines.proofs.scores.put_none.Goals as goal
+
+pub returns : goal.returns
+returns c = (then c.put_byte-gap.ensures.0 c.put_right.ensures.0, omega (arith, c.put_byte-gap.ensures.0.place))

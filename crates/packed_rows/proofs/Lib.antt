@@ -1,0 +1,2 @@
+-- What the proof of a function takes from outside its folder.
+mod High

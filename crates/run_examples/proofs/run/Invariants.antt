@@ -1,0 +1,6 @@
+-- What is left of the text.
+use Rattle.std.proofs.Common.{length, ◌-◌}
+use Rattle.run_examples.proofs.run.Given as goal
+
+abbrev pub decreases-loop-at : goal.decreases-loop-at
+decreases-loop-at l = length l.text - l.at

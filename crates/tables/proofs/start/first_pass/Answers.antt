@@ -1,0 +1,8 @@
+use Rattle.std.proofs.Common.{arith}
+use Rattle.tables.proofs.Rows.{rows_more}
+use Rattle.tables.proofs.Starting.{first_same}
+use Rattle.tables.proofs.start.first_pass.Goals as goal
+
+pub loop-i-preserved : goal.loop-i-preserved
+loop-i-preserved c = rows_more _ _ _ _ _ _ _ _ _ (omega arith) c.loop-i.invariant c.first_node.ensures
+    (λ m _. first_same _ _ _ _ _ (λ j h. c.loop-i.invariant.above j (omega arith)) _ m)
