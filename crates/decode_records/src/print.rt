@@ -23,7 +23,7 @@ pub(crate) fn print_refused(refusal: Refusal) {
 
 pub(crate) fn print_signed(z: i32) {
     let mut out = [0u8; 11];
-    let len = text::put_signed(&mut out, 0, z);
+    let len = text::put_number(&mut out, 0, z);
     io::write_all(1, &out[..len]);
 }
 

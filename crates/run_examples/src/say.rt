@@ -17,7 +17,7 @@ pub(crate) fn say_refusal(refusal: Refusal) {
 
 pub(crate) fn say_signed(z: i32) {
     let mut out = [0u8; 11];
-    let len = text::put_signed(&mut out, 0, z);
+    let len = text::put_number(&mut out, 0, z);
     say(&out[..len]);
 }
 

@@ -1,6 +1,5 @@
 // Numbers in decimal, written into a buffer from a place on. Each function returns the place behind what it wrote.
 ghost use Rattle.std.specs.Prelude.{◌++◌, ◌+◌, ◌≤◌, length};
-ghost use Rattle.text.specs.Decimal.{signed_decimal};
 ghost use Rattle.place.specs.Put.{Put};
 
 use itoa::{Buffer, Integer};
@@ -22,12 +21,4 @@ pub fn put_named<I: Integer>(out: &mut [u8], at: usize, word: &[u8], x: I) -> us
 {
     let next = put_bytes(out, at, word);
     put_number(out, next, x)
-}
-
-// One type's `put_number`, under the name that the test programs call, whose proofs have its digits as `signed_decimal`.
-pub fn put_signed(out: &mut [u8], at: usize, z: i32) -> usize
-    requires { at + 11 ≤ length out.old }
-    ensures { (Put at (signed_decimal z) out.old result out.new) × (result ≤ at + 11) }
-{
-    put_number(out, at, z)
 }

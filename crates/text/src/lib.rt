@@ -5,4 +5,4 @@ mod bits;
 mod decimals;
 
 pub use bits::put_bits;
-pub use decimals::{put_named, put_number, put_signed};
+pub use decimals::{put_named, put_number};
