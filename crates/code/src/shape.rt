@@ -1,10 +1,9 @@
 // A code, its n, and the refusals 1 to 3 and 15 of it.
-ghost use Rattle.std.specs.Prelude.{Bool, false, ◌≡◌, ◌^◌, ◌≤◌, length};
+ghost use Rattle.std.specs.Prelude.{Bool, false, List, ◌≡◌, ℕ, ◌^◌, ◌≤◌, length};
 ghost use Rattle.spec.specs.Code.{code, map_bytes, payload_size};
 ghost use Rattle.spec.specs.Faults.{first};
 ghost use Rattle.spec.specs.Refusals.{code_faults, past_end};
 ghost use Rattle.refusals.specs.Number.{refused};
-ghost use Rattle.code.specs.Codes.{code_of};
 
 use crate::pairs::pairs_refused;
 use crate::payload::payload_size;
@@ -61,10 +60,10 @@ impl Code<'_> {
         Ok(())
     }
 
-    // k, of a code of which no bit of the map is set past n.
+    // k, of a code of which no bit of the map is set past n, whatever the transform and the pairs are.
     pub fn payload_size(self) -> usize
         requires { (self.m ≤ 10) × (length self.map.now ≡ map_bytes (2 ^ self.m)) × (past_end (2 ^ self.m) self.map.now ≡ false) }
-        ensures { result ≡ payload_size (code_of self.entry) }
+        ensures { (arikan : Bool) (pairs : List ℕ) → result ≡ payload_size (code self.entry.m arikan self.entry.map.now pairs) }
     {
         payload_size(self.m, self.map)
     }

@@ -8,14 +8,14 @@ ghost use Rattle.spec.specs.Outcome.{padded};
 
 use job_fields::JobRecord;
 use ranges::saturated;
-use slices::fill_from;
+use slices::{copy, fill_from};
 
 pub(crate) fn write_part(from: &[u8], part: &mut [u8])
     requires { length from.now ≤ length part.old }
     ensures { part.new ≡ padded 0 (length part.old) from.now }
 {
     let k = from.len();
-    part[..k].copy_from_slice(from);
+    copy(from, &mut part[..k]);
     fill_from(part, k, 0);
 }
 

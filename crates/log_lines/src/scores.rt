@@ -1,5 +1,5 @@
 // The last 26 columns of a record's line, 13 for each of two numbers. Each function returns the place behind what it wrote.
-ghost use Rattle.std.specs.Prelude.{◌≡◌, ◌+◌, ◌≤◌, false, [], ◌∷◌, ◌++◌, length};
+ghost use Rattle.std.specs.Prelude.{◌≡◌, ◌+◌, ◌≤◌, false, [], ◌∷◌, ◌++◌, length, pos, ◌-ℤ◌, int_lt};
 ghost use Rattle.spec.specs.ResultRecord.{rising};
 ghost use Rattle.text.specs.Words.{space};
 ghost use Rattle.place.specs.Put.{Put};
@@ -8,6 +8,7 @@ ghost use Rattle.page.specs.Lines.{lead};
 
 use columns::{put_number_right, put_right};
 use itoa::Integer;
+use numbers::thirty_two_bits;
 use place::put_byte;
 
 // A space and a number in 12 columns.
@@ -17,6 +18,14 @@ pub(crate) fn put_number<I: Integer>(out: &mut [u8], at: usize, x: I) -> usize
 {
     let gap = put_byte(out, at, b' ');
     put_number_right(out, gap, 12, x)
+}
+
+// The difference of two scores that do not rise. It can take all 32 bits.
+fn minus(y: i32, z: i32) -> u32
+    requires { int_lt y z ≡ false }
+    ensures { (y -ℤ z) ≡ pos result }
+{
+    thirty_two_bits(y).wrapping_sub(thirty_two_bits(z))
 }
 
 // A space and `-` in 12 columns.
@@ -36,5 +45,5 @@ pub(crate) fn put_lead(out: &mut [u8], at: usize, scores: &[i32]) -> usize
     if scores.len() < 2 {
         return put_none(out, at);
     }
-    put_number(out, at, scores[0].abs_diff(scores[1]))
+    put_number(out, at, minus(scores[0], scores[1]))
 }

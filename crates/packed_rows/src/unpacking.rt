@@ -5,18 +5,20 @@ ghost use Rattle.spec.specs.ResultRecord.{some_past};
 ghost use Rattle.place.specs.Put.{Put};
 ghost use Rattle.laws.specs.PackedRows.{bits_of_each};
 
+use place::put_byte;
+
 // The w low bits of x from a place on. Returns the place behind them.
 fn put_bits(out: &mut [u8], at: usize, w: usize, x: u8) -> usize
     requires { at + w ≤ length out.old }
     ensures { (Put at (bits_of w x) out.old result out.new) × (result ≡ at + w) }
 {
-    let end = at + w;
+    let mut next = at;
     let mut rest = x;
-    for b in out[at..end].iter_mut() {
-        *b = rest % 2;
+    for _ in 0..w {
+        next = put_byte(out, next, rest % 2);
         rest /= 2;
     }
-    end
+    next
 }
 
 // The w low bits of each byte, at the front of `out`. Returns how many there are.

@@ -7,6 +7,7 @@ ghost use Rattle.positions.specs.Own.{by_bit, Over, own_sum, OwnFits, Renewed, O
 
 use code::frozen_bit;
 use rows::renew::renew_rows;
+use slices::copy;
 
 // The rows that are kept: the prefixes of the first `held` ranks after `seen` positions.
 #[derive(Drop)]
@@ -45,7 +46,7 @@ fn renew(
         count,
     );
     let from = k + notes;
-    b[from..from + bytes].copy_from_slice(&rows[..bytes]);
+    copy(&rows[..bytes], &mut b[from..from + bytes]);
 }
 
 // The sums of the first count paths at position i, whose prefixes are in rows of n bytes; the pairs of i lie from `from` to `to`.

@@ -1,14 +1,13 @@
 -- The loops that sum the magnitudes and write the scores. Assumes nothing.
-use mathlib.Core.Path.{◌≡◌, refl, sym, ap, ◌∙◌}
+use mathlib.Core.Path.{◌≡◌, sym, ap, ◌∙◌}
 use mathlib.Core.List.{List, [], ◌∷◌, ◌++◌, map, map-append}
-use Prim.Native.Nat.{ℕ, zero, suc, ◌+◌, ◌<◌}
+use Prim.Native.Nat.{ℕ, ◌+◌, ◌<◌}
 use native.Mathlib.Omega.{arith}
 use native.Mathlib.Numerals.{add-one}
 use lib.ListN.{length, take, drop, get_or, set, length-map, length-take}
-use lib.Seq.{take-suc}
+use lib.Seq.{take-suc, drop-cons}
 use lib.IntN.{ℤ, pos, nat_abs}
 use Rattle.spec.specs.Outcome.{padded}
-use Rattle.spec.specs.Score.{saturated, taken}
 use Rattle.laws.specs.Cost.{magnitude}
 use Rattle.laws.specs.ScoreCost.{score_from}
 use Rattle.rows.specs.Blocks.{padded_set}
@@ -16,15 +15,8 @@ use Rattle.rows.specs.Scores.{ScoresWritten}
 
 -- ---- magnitudes
 -- one value more
-pub magnitude_more : (soft : List ℤ) (i : ℕ) → i < length soft
-    → nat_abs (saturated (get_or soft i (pos 0))) + magnitude (drop (i + 1) (taken soft)) ≡ magnitude (drop i (taken soft))
-magnitude_more soft i h = rw add-one (go soft i h)
-  where
-    go : (soft : List ℤ) (i : ℕ) → i < length soft
-        → nat_abs (saturated (get_or soft i (pos 0))) + magnitude (drop (suc i) (taken soft)) ≡ magnitude (drop i (taken soft))
-    go [] i h = absurd (omega arith)
-    go (y ∷ soft) zero h = refl
-    go (y ∷ soft) (suc i) h = go soft i (omega arith)
+pub magnitude_next : (soft : List ℤ) (i : ℕ) → i < length soft → magnitude (drop i soft) ≡ nat_abs (get_or soft i (pos 0)) + magnitude (drop (i + 1) soft)
+magnitude_next soft i h = rw (add-one i) (ap magnitude (drop-cons soft i (pos 0) h))
 
 -- ---- scores
 module _ (total r N : ℕ) (costs : List ℕ) (scores : List ℤ) (there : r < length costs) (room : r < N) (so_far : ScoresWritten total r N costs scores) where

@@ -4,6 +4,7 @@ ghost use Rattle.std.specs.Prelude.{◌≡◌, ◌*◌, ◌≤◌, ◌<◌, leng
 ghost use Rattle.rows.specs.PrefixRows.{RenewFits, RowRenewed, RowsRenewed};
 
 use crate::inputs::trace_back;
+use slices::copy;
 
 // The prefix at rank r after i positions, at the front of a row of n bytes. The history is at the front of g, past is l * i, and from `kept`
 // on, l * n, are the rows of the prefixes of the first `held` ranks after `seen` positions. Where r leads back to a rank that has no row
@@ -27,7 +28,7 @@ fn renew_row(
     let q = trace_back(row, g, l, seen, i, past, r);
     if q < held {
         let at = kept + n * q;
-        row[..seen].copy_from_slice(&g[at..at + seen]);
+        copy(&g[at..at + seen], &mut row[..seen]);
         return;
     }
     trace_back(row, g, l, 0, seen, l * seen, q);

@@ -7,7 +7,7 @@ ghost use Rattle.laws.specs.Cost.{magnitude};
 ghost use Rattle.laws.specs.ScoreCost.{score_from};
 ghost use Rattle.rows.specs.Scores.{ScoresFit, ScoresWritten};
 
-use ranges::{magnitude_of, saturated};
+use ranges::{magnitude_of, taken_at};
 
 // The sum of the soft values' magnitudes, as they are taken.
 pub fn magnitude(soft: &[i16]) -> u32
@@ -15,8 +15,8 @@ pub fn magnitude(soft: &[i16]) -> u32
     ensures { result ≡ magnitude (taken soft.now) }
 {
     let mut sum: u32 = 0;
-    for y in soft {
-        sum += magnitude_of(saturated(*y));
+    for i in 0..soft.len() {
+        sum += magnitude_of(taken_at(soft, i));
     }
     sum
 }

@@ -4,6 +4,7 @@ ghost use Rattle.spec.specs.Transform.{transform_by};
 ghost use Rattle.transform.specs.Word.{Word};
 ghost use Rattle.rows.specs.Words.{WordsFit, WordsWritten};
 
+use slices::copy;
 use transform::transform_word;
 
 // The word of one input row.
@@ -11,7 +12,7 @@ pub fn put_word(row: &mut [u8], input: &[u8], m: u32, arikan: bool)
     requires { (length row.old ≡ length input.now) × Word m input.now }
     ensures { row.new ≡ transform_by arikan m input.now }
 {
-    row.copy_from_slice(input);
+    copy(input, row);
     transform_word(row, m, arikan);
 }
 

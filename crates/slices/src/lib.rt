@@ -1,4 +1,4 @@
-// What every crate does to the slices that are lent: one value from a place to the end; the product that measures rows.
+// What every crate does to the slices that are lent: one value from a place to the end; a copy; the product that measures rows.
 #![tactic(auto)]
 
 ghost use Rattle.std.specs.Prelude.{◌≡◌, ◌*◌, ◌≤◌, length, replicate};
@@ -10,6 +10,16 @@ pub fn fill_from<T: Copy>(s: &mut [T], from: usize, value: T)
 {
     for i in from..s.len() {
         s[i] = value;
+    }
+}
+
+// All of `from`, into a slice that is as long. By its places, since `copy_from_slice` would have the library for C ask its host for memmove.
+pub fn copy(from: &[u8], to: &mut [u8])
+    requires { length to.old ≡ length from.now }
+    ensures { to.new ≡ from.now }
+{
+    for i in 0..from.len() {
+        to[i] = from[i];
     }
 }
 

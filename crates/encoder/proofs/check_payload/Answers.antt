@@ -24,4 +24,4 @@ pub returns : goal.returns
 returns c =
     let s = c.args.code in
     first_after (code_faults (code_of s)) (bit_faults (payload_size (code_of s)) c.args.payload.now) 0 (c.in_ok-check.ensures s.arikan)
-    (code_numbers (code_of s)) refl _ (c.check_bits.ensures ∙ ap (λ (k : ℕ). first (bit_faults k c.args.payload.now)) c.payload_size.ensures)
+    (code_numbers (code_of s)) refl _ (c.check_bits.ensures ∙ ap (λ (k : ℕ). first (bit_faults k c.args.payload.now)) (c.payload_size.ensures s.arikan s.pairs.now))

@@ -40,7 +40,7 @@ returns-then-short c =
     let out = c.args.payload.now in
     let f = flags_are s.m (length u) s.arikan s.map.now s.pairs.now c.requires.1 in
     let t = broken_test (code_of s) u (flags_of (length u) s.map.now) c.breaks_rule-outside.result f (c.breaks_rule-outside.ensures s.m s.arikan) in
-    let k = ap (ltb (length out)) (sym c.payload_size-k.ensures) in
+    let k = ap (ltb (length out)) (sym (c.payload_size-k.ensures s.arikan s.pairs.now)) in
     payload_refused (code_of s) u out 10
     (is_first (input_faults (code_of s) u (length out)) 10
     (later (t ∙ c.if-outside.false) (here (k ∙ lt-ltb (length out) c.payload_size-k.result c.if-short.true)))) (λ z. omega arith)
@@ -50,7 +50,7 @@ gather_payload-requires c =
     let s = c.args.code in
     let f = flags_are s.m (length c.args.input.now) s.arikan s.map.now s.pairs.now c.requires.1 in
     let b : 2 ^ s.m ≤ 8 * length s.map.now = enough_bits (2 ^ s.m) s.map.now c.requires.0.bytes in
-    (omega arith, ap clear f ∙ sym (length-take-le c.payload_size-k.result c.args.payload.now c.if-short.false ∙ c.payload_size-k.ensures))
+    (omega arith, ap clear f ∙ sym (length-take-le c.payload_size-k.result c.args.payload.now c.if-short.false ∙ (c.payload_size-k.ensures s.arikan s.pairs.now)))
 
 pub returns : goal.returns
 returns c =
@@ -61,7 +61,7 @@ returns c =
     let h = c.if-short.false in
     let f = flags_are s.m (length u) s.arikan s.map.now s.pairs.now c.requires.1 in
     let t = broken_test (code_of s) u (flags_of (length u) s.map.now) c.breaks_rule-outside.result f (c.breaks_rule-outside.ensures s.m s.arikan) in
-    let q = ap (ltb (length out)) (sym c.payload_size-k.ensures) in
+    let q = ap (ltb (length out)) (sym (c.payload_size-k.ensures s.arikan s.pairs.now)) in
     ap (written 0)
     (c.fill_from.ensures
     ∙ filled_behind 0 c.gather_payload.new.payload out k (c.gather_payload.auto.payload ∙ length-take-le k out h) h

@@ -32,13 +32,13 @@ pub slice_bounds-write_load-end : goal.slice_bounds-write_load-end
 slice_bounds-write_load-end c =
     let x = c.args in
     let l = loads x.s (code_of x.code) x.frame (length x.out.now) (length x.payload.now) c.in_ok-check_load.ensures in
-    omega (arith, c.payload_size-k.ensures, l.payload_fits)
+    omega (arith, (c.payload_size-k.ensures x.code.arikan x.code.pairs.now), l.payload_fits)
 
 pub slice_bounds-write_load-end-2 : goal.slice_bounds-write_load-end-2
 slice_bounds-write_load-end-2 c =
     let x = c.args in
     let l = loads x.s (code_of x.code) x.frame (length x.out.now) (length x.payload.now) c.in_ok-check_load.ensures in
-    sym (length-take-le c.payload_size-k.result x.payload.now (omega (arith, c.payload_size-k.ensures, l.payload_fits)))
+    sym (length-take-le c.payload_size-k.result x.payload.now (omega (arith, (c.payload_size-k.ensures x.code.arikan x.code.pairs.now), l.payload_fits)))
 
 pub write_load-load-requires : goal.write_load-load-requires
 write_load-load-requires c =
@@ -46,7 +46,7 @@ write_load-load-requires c =
     let l = loads x.s (code_of x.code) x.frame (length x.out.now) (length x.payload.now) c.in_ok-check_load.ensures in (
       l.accepts,
       l.record_fits,
-      length-take-le c.payload_size-k.result x.payload.now (omega (arith, c.payload_size-k.ensures, l.payload_fits)) ∙ c.payload_size-k.ensures,
+      length-take-le c.payload_size-k.result x.payload.now (omega (arith, (c.payload_size-k.ensures x.code.arikan x.code.pairs.now), l.payload_fits)) ∙ (c.payload_size-k.ensures x.code.arikan x.code.pairs.now),
     )
 
 pub returns : goal.returns
@@ -58,7 +58,7 @@ returns c =
     let w = c.write_load-load in
     let job = load_record x.s s x.frame in
     let e : w.result.length ≡ length job = omega (arith, w.ensures.1.place) in
-    let fits : c.payload_size-k.result ≤ length x.payload.now = omega (arith, c.payload_size-k.ensures, l.payload_fits) in
+    let fits : c.payload_size-k.result ≤ length x.payload.now = omega (arith, (c.payload_size-k.ensures x.code.arikan x.code.pairs.now), l.payload_fits) in
     let begun = whole w.ensures.1 (omega (arith, e, l.record_fits)) in
     equal e w.ensures.0
     (c.fill_from.ensures ∙ filled_front 0 job x.out.now _ w.result.length begun.bytes e (omega (arith, e, l.record_fits)))

@@ -8,5 +8,5 @@ pub returns : goal.returns
 returns c =
     let from = c.args.from.now in
     let part = c.args.part.now in
-    let copied = c.copy_from_slice.ensures.after in
-    c.fill_from.ensures ∙ filled_behind 0 c.copy_from_slice.new.self part (length from) (ap length copied) c.requires ∙ ap (padded 0 (length part)) copied
+    let copied = c.copy.ensures in
+    c.fill_from.ensures ∙ filled_behind 0 c.copy.new.to part (length from) (ap length copied) c.requires ∙ ap (padded 0 (length part)) copied

@@ -32,7 +32,7 @@ pub serve-requires : goal.serve-requires
 serve-requires c =
     let a = c.args in
     serve_fits (code_of a.code) a.soft.now _ (by_room (code_of a.code) a.soft.now c.of.ensures c.in_ok-check_list.ensures)
-    _ _ c.size-n.ensures.0 c.payload_size-k.ensures
+    _ _ c.size-n.ensures.0 (c.payload_size-k.ensures a.code.arikan a.code.pairs.now)
 
 pub returns : goal.returns
 returns c =

@@ -34,7 +34,7 @@ pub returns-then-k-gt20 : goal.returns-then-k-gt20
 returns-then-k-gt20 c =
     let o : Code = code_of c.args.code in
     decided o c.args.soft.now (places_of c.args.lent) 20 (c.in_ok-check.ensures c.args.code.arikan)
-    (here (sym (ap (ltb 20) c.payload_size-k.ensures) ∙ lt-ltb 20 c.payload_size-k.result c.if-k-gt20.true))
+    (here (sym (ap (ltb 20) (c.payload_size-k.ensures c.args.code.arikan c.args.code.pairs.now)) ∙ lt-ltb 20 c.payload_size-k.result c.if-k-gt20.true))
 
 pub size-n-requires : goal.size-n-requires
 size-n-requires c = (accepted (code_of c.args.code) (c.in_ok-check.ensures c.args.code.arikan)).high
@@ -50,6 +50,6 @@ returns c =
     let o : Code = code_of c.args.code in
     let r : Room = places_of c.args.lent in
     decided o c.args.soft.now r _ (c.in_ok-check.ensures c.args.code.arikan)
-    (later (sym (ap (ltb 20) c.payload_size-k.ensures) ∙ le-ltb 20 c.payload_size-k.result c.if-k-gt20.false)
+    (later (sym (ap (ltb 20) (c.payload_size-k.ensures c.args.code.arikan c.args.code.pairs.now)) ∙ le-ltb 20 c.payload_size-k.result c.if-k-gt20.false)
     (of_first (list_room_faults (size o) c.args.soft.now r) _
     (c.check_room.ensures ∙ ap (λ (n : ℕ). first (list_room_faults n c.args.soft.now r)) c.size-n.ensures.0)))

@@ -7,7 +7,7 @@ returns-then-q-held c =
     let a = c.args in
     let back = c.trace_back-q in
     row_copied a.l a.n a.seen a.held a.i a.past a.kept a.r back.result a.g.now a.row.now back.new.row c.requires.0 back.ensures
-    c.if-q-held.true _ (omega arith) c.copy_from_slice.new.self c.copy_from_slice.ensures.after
+    c.if-q-held.true _ (omega arith) c.copy.new.to c.copy.ensures
 
 pub returns : goal.returns
 returns c =

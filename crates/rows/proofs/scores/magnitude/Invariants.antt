@@ -3,5 +3,5 @@ use Rattle.spec.specs.Score.{taken}
 use Rattle.laws.specs.Cost.{magnitude}
 use Rattle.rows.proofs.scores.magnitude.Given as goal
 
-abbrev pub invariant-loop-y : goal.invariant-loop-y
-invariant-loop-y l = l.sum + magnitude (drop l.y-index (taken l.soft)) ≡ magnitude (taken l.soft)
+abbrev pub invariant-loop-i : goal.invariant-loop-i
+invariant-loop-i l = l.sum + magnitude (drop l.i (taken l.soft)) ≡ magnitude (taken l.soft)

@@ -67,7 +67,7 @@ returns-then-payloads-k c =
     let k = code_of x.code in
     let p = c.in_ok-check.ensures x.code.arikan in
     let n = need x.s k x.frame (accepted k p) c.size-n.ensures.0 (c.record_length-need.ensures.0 x.code.arikan) in
-    let q = c.payload_size-k.ensures in
+    let q = c.payload_size-k.ensures x.code.arikan x.code.pairs.now in
     last x.s k x.frame x.payloads p c.if-s-eq0.false n c.if-records-need.false 10
     (here (lt-ltb x.payloads (payload_size k) (omega (arith, q, c.if-payloads-k.true))))
 
@@ -77,6 +77,6 @@ returns c =
     let k = code_of x.code in
     let p = c.in_ok-check.ensures x.code.arikan in
     let n = need x.s k x.frame (accepted k p) c.size-n.ensures.0 (c.record_length-need.ensures.0 x.code.arikan) in
-    let q = c.payload_size-k.ensures in
+    let q = c.payload_size-k.ensures x.code.arikan x.code.pairs.now in
     last x.s k x.frame x.payloads p c.if-s-eq0.false n c.if-records-need.false 0
     (later (le-ltb x.payloads (payload_size k) (omega (arith, q, c.if-payloads-k.false))) none)
