@@ -1,5 +1,5 @@
 -- What the bits differ by is the difference, since the first is not below the second.
-use Rattle.std.proofs.Common.{◌≡◌, ℕ, ap, ◌∙◌, w32, arith}
+use Rattle.std.proofs.Common.{◌≡◌, ap, ◌∙◌, w32, arith}
 use mir.ValLaws.{to_z-of_z}
 use Rattle.spec.specs.RecordOf.{thirty_two_bits}
 use Rattle.page.specs.Lead.{difference_is}

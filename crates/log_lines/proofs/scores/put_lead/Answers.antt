@@ -1,6 +1,5 @@
 use Rattle.std.proofs.Common.{◌≡◌, ℕ, false, ◌++◌, List, length, get_or, ℤ, pos, ◌-ℤ◌, ap, ◌∙◌, sym, w32, to_z, of_z, arith, rules}
 use mir.Val.{SFits}
-use Rattle.std.specs.Int.Signed.{lt_z}
 use Rattle.std.specs.Fmt.{decimal as printed}
 use Rattle.std.proofs.lemmas.Int.{to_z-of_z}
 use Rattle.text.specs.Decimal.{as_printed, decimal_32, signed_decimal}
